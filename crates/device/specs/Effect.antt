@@ -1,0 +1,39 @@
+-- The effect of writing several blocks as one.
+use mathlib.Core.Path.{_≡_}
+use mathlib.Core.Bool.{Bool, false}
+use mathlib.Core.List.{List, [], _∷_}
+use mathlib.Core.Logic.{_⊎_}
+use Prim.Native.Nat.{ℕ, _<_}
+use Rattle.device.specs.Model.{Model, Block, Stands, put, Is}
+use Rattle.device.specs.declared.put.Put.{Put}
+
+-- what is shown after the puts, one after another
+abbrev pub puts : (ℕ → Block) → List Put → ℕ → Block
+puts f [] = f
+puts f (w ∷ ws) = puts (put f (w .block .0) (w .bytes)) ws
+
+-- x is what one of the puts has for block b
+abbrev pub PutAt : ℕ → Block → List Put → Type 0
+PutAt b x [] = ⊥
+PutAt b x (w ∷ ws) = Is (w .block .0) (w .bytes) b x ⊎ PutAt b x ws
+
+-- how a call that writes ended: it was accepted, or power gone broke it off
+pub data Outcome : Type 0 where
+  accepted : Outcome
+  broken : Outcome
+
+-- accepted, every put shows; broken off, each block shows what it did or one of the puts
+abbrev pub Shows : Outcome → List Put → (ℕ → Block) → (ℕ → Block) → Type 0
+Shows accepted ws f h = h ≡ puts f ws
+Shows broken ws f h = (b : ℕ) → (h b ≡ f b) ⊎ PutAt b (h b) ws
+
+abbrev pub Power : Outcome → Bool → Bool → Type 0
+Power accepted p q = q ≡ p
+Power broken p q = q ≡ false
+
+-- the puts ws were made on m, which left n: nothing but a put joins what may stand
+pub record Altered (o : Outcome) (ws : List Put) (m n : Model) : Type 0 where
+  pub count : n .count ≡ m .count
+  pub power : Power o (m .power) (n .power)
+  pub shows : Shows o ws (m .shown) (n .shown)
+  pub joined : (b : ℕ) (x : Block) → Stands n b x → Stands m b x ⊎ PutAt b x ws

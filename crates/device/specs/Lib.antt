@@ -1,0 +1,3 @@
+pub mod Model
+pub mod Answers
+pub mod Effect

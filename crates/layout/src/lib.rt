@@ -1,0 +1,1 @@
+// The card's format: geometry, blocks, entries, owners.
