@@ -1,0 +1,2 @@
+mod Plains
+mod Effects
