@@ -19,7 +19,7 @@ use mathlib.Core.List.{_++_}
 use Rattle.base.specs.declared.number.BlockNo.{BlockNo}
 use Rattle.device.specs.Model.{Kept, Lost, Written, Torn}
 use Rattle.device.specs.Answers.{WriteFault}
-use Rattle.device.specs.Effect.{Altered, accepted, broken, Named, WriteAllFault}
+use Rattle.device.specs.Effect.{Outcome, Altered, accepted, broken, Named, WriteAllFault, CutLeaves}
 use Rattle.device.specs.declared.fault.Fault.{Fault}
 use Rattle.device.specs.declared.fault.Fault.the-variants.{PowerGone, NoSuchBlock}
 
@@ -157,3 +157,12 @@ module _ (ws : List Put) (i : ℕ) (d : Put) (l : i < length ws) (m k n : Model)
       (rw (h .0) (named-here ws i d l), inside, ⊎-elim broken-lost broken-torn (h .1))
   refused-at inside (NoSuchBlock p) h =
       absurd (omega (arith, h .past, inside-at (m .count) ws i d inside l, a .count))
+
+-- ---- what a cut leaves
+
+pub cut-altered : (o : Outcome) (ws : List Put) (m n : Model) → Altered o ws m n → CutLeaves ws m n
+cut-altered o ws m n a z c b = a .joined b (z .shown b) (c .landed b)
+
+pub cut-refused : (ws : List Put) (m n : Model) (e : Fault) → WriteAllFault ws m n e → CutLeaves ws m n
+cut-refused ws m n (PowerGone p) h = cut-altered broken ws m n (h .2)
+cut-refused ws m n (NoSuchBlock p) h = λ z c b. inl (rw (h .1) at (c .landed b))

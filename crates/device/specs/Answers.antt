@@ -1,5 +1,6 @@
 -- What each call of a device says, by its answer: of the model m before the call and n after it.
 use mathlib.Core.Path.{_≡_}
+use mathlib.Core.Bool.{Bool, true, false}
 use mathlib.Core.List.{List}
 use mathlib.Core.Logic.{_⊎_}
 use Prim.Native.Nat.{ℕ, _<_, _≤_}
@@ -17,6 +18,10 @@ use Rattle.std.specs.declared.result.Result.{Result}
 abbrev pub refusal-of : Fault → Refusal
 refusal-of (PowerGone b) = PowerGoneRefusal b
 refusal-of (NoSuchBlock b) = NoSuchBlockRefusal b
+
+abbrev pub power-gone : Fault → Bool
+power-gone (PowerGone b) = true
+power-gone (NoSuchBlock b) = false
 
 -- the block called is past the end, and nothing changed. Power was on: power gone is told first
 pub record Missing (b p : BlockNo) (m n : Model) : Type 0 where

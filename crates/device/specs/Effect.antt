@@ -4,7 +4,7 @@ use mathlib.Core.Bool.{Bool, false, cond}
 use mathlib.Core.List.{List, [], _∷_}
 use mathlib.Core.Logic.{_⊎_}
 use Prim.Native.Nat.{ℕ, _<_}
-use Rattle.device.specs.Model.{Model, Block, Stands, put, Is}
+use Rattle.device.specs.Model.{Model, Block, Stands, Cut, put, Is}
 use Rattle.base.specs.declared.number.BlockNo.{BlockNo}
 use Rattle.device.specs.declared.put.Put.{Put}
 use Rattle.device.specs.declared.fault.Fault.{Fault}
@@ -63,3 +63,7 @@ WriteAllFault ws m n (NoSuchBlock b) = (first-outside (m .count) ws ≡ Some b) 
 
 abbrev pub WriteAll : {U : Type 0} → List Put → Result U Fault → Model → Model → Type 0
 WriteAll ws r m n = Cases r (λ _. (first-outside (m .count) ws ≡ None) × Altered accepted ws m n) (WriteAllFault ws m n)
+
+-- whatever a cut leaves: each block shows what could stand there before the puts, or one of them
+abbrev pub CutLeaves : List Put → Model → Model → Type 0
+CutLeaves ws m n = (z : Model) → Cut n z → (b : ℕ) → Stands m b (z .shown b) ⊎ PutAt b (z .shown b) ws

@@ -1,7 +1,6 @@
 // Several blocks written as one effect.
 ghost use mathlib.Core.Path.{_≡_};
-ghost use mathlib.Core.Bool.{true};
-ghost use Rattle.device.specs.Effect.{accepted, Altered, first-outside, WriteAll};
+ghost use Rattle.device.specs.Effect.{first-outside, WriteAll, CutLeaves};
 use base::number::BlockNo;
 use crate::Device;
 use crate::fault::Fault;
@@ -21,7 +20,8 @@ fn outside(count: u16, puts: &[Put]) -> Option<BlockNo>
 
 // Writes the blocks in their order, or none where the device lacks one of them.
 pub fn write_all<D: Device>(device: &mut D, puts: &[Put]) -> Result<(), Fault>
-    ensures { λ r. ⌜ WriteAll (now (puts .entry)) r (model (now (device .entry))) (model (now (device .exit))) ⌝ }
+    ensures answer { λ r. ⌜ WriteAll (now (puts .entry)) r (model (now (device .entry))) (model (now (device .exit))) ⌝ }
+    ensures cut { λ _. ⌜ CutLeaves (now (puts .entry)) (model (now (device .entry))) (model (now (device .exit))) ⌝ }
 {
     if let Some(at) = outside(device.count(), puts) {
         return Err(Fault::NoSuchBlock(at));

@@ -1,6 +1,6 @@
 // What a device answers besides bytes.
 ghost use mathlib.Core.Path.{_≡_};
-ghost use Rattle.device.specs.Answers.{refusal-of};
+ghost use Rattle.device.specs.Answers.{refusal-of, power-gone};
 use base::number::BlockNo;
 use base::number::BlockNoDebug;
 use base::number::BlockNoPartialEq;
@@ -11,6 +11,17 @@ use base::refusal::Refusal;
 pub enum Fault {
     PowerGone(BlockNo),
     NoSuchBlock(BlockNo),
+}
+
+impl Fault {
+    pub fn is_power_gone(&self) -> bool
+        ensures { λ r. ⌜ r ≡ power-gone (now (self .entry)) ⌝ }
+    {
+        match self {
+            Fault::PowerGone(_) => true,
+            Fault::NoSuchBlock(_) => false,
+        }
+    }
 }
 
 // What a sync answers: everything has landed, or the device cannot say.

@@ -1,0 +1,4 @@
+pub mod Buffered
+pub mod Steps
+pub mod Inner
+pub mod Laws
