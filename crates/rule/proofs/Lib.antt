@@ -1,0 +1,4 @@
+mod Steps
+mod Walks
+mod Places
+mod Means
