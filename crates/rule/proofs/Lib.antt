@@ -4,3 +4,4 @@ mod Places
 mod Means
 mod Free
 mod Plans
+mod Holds

@@ -1,6 +1,7 @@
 // What every call of a card means: definitions in specs/, with worked cases and theorems on the functions below.
 // A function here computes nothing: what its contract says is proved whenever the crate is.
 ghost use Rattle.rule.specs.Meaning.{Found-is-found, Good-is-good, Reached-is-reached, Held-is-held, Free-slot-is-next, Free-body-is-next, No-free-slot, No-free-body};
+ghost use Rattle.rule.specs.Cases.{Cases-hold};
 ghost use Rattle.rule.specs.Calls.{Create-means, Write-means, Shorten-means, Remove-means};
 
 // What computes is the rule as the relations have it.
@@ -29,6 +30,13 @@ pub fn plans_stand() -> u8
     ensures writes { λ _. ⌜ Write-means ⌝ }
     ensures shortens { λ _. ⌜ Shorten-means ⌝ }
     ensures removes { λ _. ⌜ Remove-means ⌝ }
+{
+    0
+}
+
+// The worked cases hold.
+pub fn cases_hold() -> u8
+    ensures { λ _. ⌜ Cases-hold ⌝ }
 {
     0
 }
