@@ -5,3 +5,4 @@ mod Means
 mod Free
 mod Plans
 mod Holds
+mod Needed

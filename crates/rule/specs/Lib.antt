@@ -7,3 +7,4 @@ pub mod Meaning
 pub mod Calls
 pub mod Run
 pub mod Cases
+pub mod Broken

@@ -2,6 +2,7 @@
 // A function here computes nothing: what its contract says is proved whenever the crate is.
 ghost use Rattle.rule.specs.Meaning.{Found-is-found, Good-is-good, Reached-is-reached, Held-is-held, Free-slot-is-next, Free-body-is-next, No-free-slot, No-free-body};
 ghost use Rattle.rule.specs.Cases.{Cases-hold};
+ghost use Rattle.rule.specs.Broken.{Fresh-identity-needed, Untaken-name-needed, Free-body-needed, Empty-folder-needed};
 ghost use Rattle.rule.specs.Calls.{Create-means, Write-means, Shorten-means, Remove-means};
 
 // What computes is the rule as the relations have it.
@@ -37,6 +38,16 @@ pub fn plans_stand() -> u8
 // The worked cases hold.
 pub fn cases_hold() -> u8
     ensures { λ _. ⌜ Cases-hold ⌝ }
+{
+    0
+}
+
+// A plan that leaves a rule out gives a wrong answer after a cut or a later call.
+pub fn rules_are_needed() -> u8
+    ensures identity { λ _. ⌜ Fresh-identity-needed ⌝ }
+    ensures name { λ _. ⌜ Untaken-name-needed ⌝ }
+    ensures body { λ _. ⌜ Free-body-needed ⌝ }
+    ensures folder { λ _. ⌜ Empty-folder-needed ⌝ }
 {
     0
 }
