@@ -1,1 +1,4 @@
 pub mod Format
+pub mod Sizes
+pub mod Head
+pub mod View
