@@ -11,10 +11,9 @@ use Rattle.base.specs.declared.owner.Kind.the-variants.{File, Folder}
 use Rattle.layout.specs.Format.{Geometry, Content, Region, slot-region, body-region, by-kind, parse, region, slotted, ill-formed, slot-fields, slot-of, folder-body-of, le16, le32, numbers-of, all-bodies, leaf-limit}
 use Rattle.layout.specs.Head.{cells, slot-head-at, body-head-at, slot-by, file-body-by, folder-body-by}
 
--- the block's kind, and the part of the block after the head as a pattern gives it
-pub joined : {H : Type 0} (of : H → List ℕ → Content) (g : Geometry) (r : Region) (z : List ℕ) (k : ℕ) (p : Content) (h h′ : H) → p ≡ of h (take (length z - 16) (drop 16 z)) → h ≡ h′ → getD z 0 0 ≡ k → of h′ (drop 16 z) ≡ by-kind g r k z → p ≡ by-kind g r (getD z 0 0) z
-joined of g r z k p h h′ e eh ek el =
-    e ∙ ap (of h) (take-rest z 16) ∙ ap (λ x. of x (drop 16 z)) eh ∙ el ∙ ap (λ x. by-kind g r x z) (sym ek)
+-- the head, and the part of the block after it as a pattern gives it
+pub joined : {H : Type 0} (of : H → List ℕ → Content) (z : List ℕ) (p q : Content) (h h′ : H) → p ≡ of h (take (length z - 16) (drop 16 z)) → h ≡ h′ → of h′ (drop 16 z) ≡ q → p ≡ q
+joined of z p q h h′ e eh el = e ∙ ap (of h) (take-rest z 16) ∙ ap (λ x. of x (drop 16 z)) eh ∙ el
 
 grouped : (a b c d e : Bool) → ((a && (b && (c && d))) && e) ≡ (a && (b && (c && (d && e))))
 grouped false b c d e = refl

@@ -5,8 +5,9 @@ use mathlib.Core.Bool.{Bool, cond, _&&_}
 use lib.ListN.{take, drop}
 use lib.Dec.{eqb, leb, ltb}
 use Rattle.base.specs.declared.owner.Kind.{Kind}
+use Rattle.base.specs.declared.owner.Kind.the-variants.{File, Folder}
 use Rattle.device.specs.Model.{Block}
-use Rattle.layout.specs.Format.{Geometry, Content, slotted, file-body, folder-body, ill-formed, handle, back, le16, le32, Cell, numbers-of, cells-of, all-bodies, leaf-limit}
+use Rattle.layout.specs.Format.{Geometry, Content, slotted, file-body, folder-body, ill-formed, file-body-of, folder-body-of, handle, back, le16, le32, Cell, numbers-of, cells-of, all-bodies, leaf-limit}
 use Rattle.layout.specs.declared.block.SlotHead.{SlotHead}
 use Rattle.layout.specs.declared.block.BodyHead.{BodyHead}
 
@@ -50,3 +51,7 @@ file-body-by g h rest = cond (body-head-fits g h && leb (h .used) 496) (file-bod
 
 abbrev pub folder-body-by : Geometry → BodyHead → List ℕ → Content
 folder-body-by g h rest = cond (body-head-fits g h && eqb (h .used) 480) (folder-body (h .back) (cells rest)) ill-formed
+
+abbrev pub body-of : Geometry → Kind → Block → Content
+body-of g File z = file-body-of g z
+body-of g Folder z = folder-body-of g z

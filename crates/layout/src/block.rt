@@ -4,9 +4,9 @@ ghost use mathlib.Core.List.{List, [], _∷_};
 ghost use Prim.Native.Nat.{_*_, _≤_};
 ghost use lib.ListN.{length, getD};
 ghost use Rattle.std.specs.Options.{Cases as BySome};
-ghost use Rattle.layout.specs.Format.{le16, le32, all-bodies, numbers-of, cover, ill-formed, cover-of, by-kind, slot-region, body-region, parse as parsed};
+ghost use Rattle.layout.specs.Format.{le16, le32, all-bodies, numbers-of, cover, ill-formed, cover-of, slot-of, by-kind, slot-region, body-region, parse as parsed};
 ghost use Rattle.layout.specs.Sizes.{sizes};
-ghost use Rattle.layout.specs.Head.{slot-head, body-head, slot-head-fits, body-head-fits, slot-by, file-body-by, folder-body-by};
+ghost use Rattle.layout.specs.Head.{body-of, slot-head, body-head, slot-head-fits, body-head-fits, slot-by, file-body-by, folder-body-by};
 ghost use Rattle.layout.specs.View.{view, Sized};
 use crate::geometry::Geometry;
 use crate::region::Region;
@@ -128,7 +128,7 @@ fn body_head_fits(g: &Geometry, head: &BodyHead) -> bool
     head.back.owner.slot.0 < g.slots && 1 <= head.back.owner.identity.0 && head.back.leaf.0 < 64
 }
 
-fn any_slot<'a>(g: &Geometry, kind: Kind, head: SlotHead, rest: &'a [u8]) -> Block<'a>
+fn slot_after<'a>(g: &Geometry, kind: Kind, head: SlotHead, rest: &'a [u8]) -> Block<'a>
     requires { ⌜ length (now rest) ≡ 496 ⌝ }
     ensures means { λ r. ⌜ view r ≡ slot-by (sizes (now (g .entry))) kind head (now (rest .entry)) ⌝ }
     ensures sized { λ r. ⌜ Sized r ⌝ }
@@ -205,6 +205,72 @@ fn in_cover<'a>(block: &'a [u8; 512]) -> Block<'a>
     }
 }
 
+fn any_slot<'a>(g: &Geometry, kind: Kind, block: &'a [u8]) -> Block<'a>
+    requires { ⌜ length (now block) ≡ 512 ⌝ }
+    ensures means { λ r. ⌜ view r ≡ slot-of (sizes (now (g .entry))) kind (now (block .entry)) ⌝ }
+    ensures sized { λ r. ⌜ Sized r ⌝ }
+{
+    let [
+        _,
+        _,
+        c0,
+        c1,
+        i0,
+        i1,
+        i2,
+        i3,
+        p0,
+        p1,
+        p2,
+        p3,
+        s0,
+        s1,
+        _,
+        _,
+        rest @ ..,
+    ] = block
+    else {
+        return Block::IllFormed;
+    };
+    let identity = [*i0, *i1, *i2, *i3];
+    let head = slot_head([*c0, *c1], identity, [*p0, *p1, *p2, *p3], [*s0, *s1]);
+    slot_after(g, kind, head, rest)
+}
+
+fn any_body<'a>(g: &Geometry, kind: Kind, block: &'a [u8]) -> Block<'a>
+    requires { ⌜ length (now block) ≡ 512 ⌝ }
+    ensures means { λ r. ⌜ view r ≡ body-of (sizes (now (g .entry))) kind (now (block .entry)) ⌝ }
+    ensures sized { λ r. ⌜ Sized r ⌝ }
+{
+    let [
+        _,
+        _,
+        s0,
+        s1,
+        i0,
+        i1,
+        i2,
+        i3,
+        l0,
+        l1,
+        u0,
+        u1,
+        _,
+        _,
+        _,
+        _,
+        rest @ ..,
+    ] = block
+    else {
+        return Block::IllFormed;
+    };
+    let head = body_head([*s0, *s1], [*i0, *i1, *i2, *i3], [*l0, *l1], [*u0, *u1]);
+    match kind {
+        Kind::File => return file_body(g, head, rest),
+        Kind::Folder => return folder_body(g, head, rest),
+    }
+}
+
 fn in_slots<'a>(g: &Geometry, block: &'a [u8]) -> Block<'a>
     requires { ⌜ length (now block) ≡ 512 ⌝ }
     ensures means { λ r. ⌜ view r ≡ by-kind (sizes (now (g .entry))) slot-region (getD (now (block .entry)) 0 0) (now (block .entry)) ⌝ }
@@ -212,52 +278,8 @@ fn in_slots<'a>(g: &Geometry, block: &'a [u8]) -> Block<'a>
 {
     match block {
         [0, ..] => Block::Blank,
-        [
-            2,
-            _,
-            c0,
-            c1,
-            i0,
-            i1,
-            i2,
-            i3,
-            p0,
-            p1,
-            p2,
-            p3,
-            s0,
-            s1,
-            _,
-            _,
-            rest @ ..,
-        ] => {
-            let identity = [*i0, *i1, *i2, *i3];
-            let head = slot_head([*c0, *c1], identity, [*p0, *p1, *p2, *p3], [*s0, *s1]);
-            return any_slot(g, Kind::File, head, rest);
-        }
-        [
-            3,
-            _,
-            c0,
-            c1,
-            i0,
-            i1,
-            i2,
-            i3,
-            p0,
-            p1,
-            p2,
-            p3,
-            s0,
-            s1,
-            _,
-            _,
-            rest @ ..,
-        ] => {
-            let identity = [*i0, *i1, *i2, *i3];
-            let head = slot_head([*c0, *c1], identity, [*p0, *p1, *p2, *p3], [*s0, *s1]);
-            return any_slot(g, Kind::Folder, head, rest);
-        }
+        [2, ..] => return any_slot(g, Kind::File, block),
+        [3, ..] => return any_slot(g, Kind::Folder, block),
         _ => Block::IllFormed,
     }
 }
@@ -269,50 +291,8 @@ fn in_bodies<'a>(g: &Geometry, block: &'a [u8]) -> Block<'a>
 {
     match block {
         [0, ..] => Block::Blank,
-        [
-            4,
-            _,
-            s0,
-            s1,
-            i0,
-            i1,
-            i2,
-            i3,
-            l0,
-            l1,
-            u0,
-            u1,
-            _,
-            _,
-            _,
-            _,
-            rest @ ..,
-        ] => {
-            let head = body_head([*s0, *s1], [*i0, *i1, *i2, *i3], [*l0, *l1], [*u0, *u1]);
-            return file_body(g, head, rest);
-        }
-        [
-            5,
-            _,
-            s0,
-            s1,
-            i0,
-            i1,
-            i2,
-            i3,
-            l0,
-            l1,
-            u0,
-            u1,
-            _,
-            _,
-            _,
-            _,
-            rest @ ..,
-        ] => {
-            let head = body_head([*s0, *s1], [*i0, *i1, *i2, *i3], [*l0, *l1], [*u0, *u1]);
-            return folder_body(g, head, rest);
-        }
+        [4, ..] => return any_body(g, Kind::File, block),
+        [5, ..] => return any_body(g, Kind::Folder, block),
         _ => Block::IllFormed,
     }
 }
