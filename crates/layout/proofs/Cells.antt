@@ -4,7 +4,7 @@ use mathlib.Core.List.{List, [], _∷_}
 use Prim.Native.Nat.{ℕ, zero, suc, _+_, _*_, _-_, _/_, _≤_, _<_}
 use native.Mathlib.Omega.{arith}
 use lib.ListN.{length, getD, take, drop}
-use Rattle.std.proofs.shelf.Lists.{drop-drop, getD-drop, getD-take, drop-take, take-take}
+use Rattle.std.proofs.shelf.Lists.{drop-drop, getD-drop, getD-take, drop-take, take-take, length-drop, length-take-le}
 use Rattle.layout.specs.Format.{Cell, cells-of}
 use Rattle.layout.specs.Head.{cells}
 
@@ -33,3 +33,12 @@ cell-of-at (suc n) (suc k) z lt = cell-of-at n k (drop 32 z) (omega arith) ∙ a
 pub cell-at : (k : ℕ) (z : List ℕ) → k < 15 → getD (cells z) k [] ≡ take 32 (drop (32 * k) z)
 unfolding cells
 cell-at k z lt = cell-of-at 15 k z lt
+
+-- the k-th cell as a part of the block
+pub cell-part : (k : ℕ) (z : List ℕ) → length z ≡ 480 → k < 15 → (length (take (32 * k + 32 - 32 * k) (drop (32 * k) z)) ≡ 32) × (take (32 * k + 32 - 32 * k) (drop (32 * k) z) ≡ getD (cells z) k [])
+cell-part k z len lt =
+    let room : 32 ≤ length (drop (32 * k) z) = simp length-drop (omega arith) in
+    let same : take (32 * k + 32 - 32 * k) (drop (32 * k) z) ≡ take 32 (drop (32 * k) z) =
+    let n : 32 * k + 32 - 32 * k ≡ 32 = omega arith in
+    ap (λ n. take n (drop (32 * k) z)) n in
+    (ap length same ∙ length-take-le 32 (drop (32 * k) z) room, same ∙ sym (cell-at k z lt))

@@ -2,3 +2,5 @@ pub mod Format
 pub mod Sizes
 pub mod Head
 pub mod View
+pub mod Entries
+pub mod Identities

@@ -1,14 +1,16 @@
 // A block once read: one of the kinds, or ill formed. Slots and bodies borrow what follows their head from the block.
 ghost use mathlib.Core.Path.{_≡_};
 ghost use mathlib.Core.List.{List, [], _∷_};
-ghost use Prim.Native.Nat.{_*_, _≤_};
+ghost use Prim.Native.Nat.{_*_, _<_, _≤_};
 ghost use lib.ListN.{length, getD};
 ghost use Rattle.std.specs.Options.{Cases as BySome};
-ghost use Rattle.layout.specs.Format.{le16, le32, all-bodies, numbers-of, cover, ill-formed, cover-of, slot-of, by-kind, slot-region, body-region, parse as parsed};
+ghost use Rattle.layout.specs.Format.{all-bodies, numbers-of, cover, ill-formed, cover-of, slot-of, by-kind, slot-region, body-region, parse as parsed};
 ghost use Rattle.layout.specs.Sizes.{sizes};
 ghost use Rattle.layout.specs.Head.{body-of, slot-head, body-head, slot-head-fits, body-head-fits, slot-by, file-body-by, folder-body-by};
-ghost use Rattle.layout.specs.View.{view, Sized};
+ghost use Rattle.layout.specs.View.{view, Sized, all-numbers};
 use crate::geometry::Geometry;
+use crate::number::number16;
+use crate::number::number32;
 use crate::region::Region;
 use base::number::BlockNo;
 use base::number::Identity;
@@ -44,6 +46,28 @@ pub enum Block<'a> {
     IllFormed,
 }
 
+impl Slot<'_> {
+    // How many leaves it has.
+    pub fn count(&self) -> usize
+        ensures { λ r. ⌜ r ≡ length (all-numbers (now (now (self .entry) .numbers))) ⌝ }
+    {
+        self.numbers.len() / 2
+    }
+
+    // The block of a leaf; None from the count on.
+    pub fn number(&self, leaf: LeafNo) -> Option<BlockNo>
+        ensures { λ r. ⌜ BySome r (length (all-numbers (now (now (self .entry) .numbers))) ≤ leaf .0) (λ b. (leaf .0 < length (all-numbers (now (now (self .entry) .numbers)))) × (b .0 ≡ getD (all-numbers (now (now (self .entry) .numbers))) (leaf .0) 0)) ⌝ }
+    {
+        let numbers = self.numbers;
+        let at = 2 * leaf.0 as usize;
+        if at + 1 < numbers.len() {
+            Some(BlockNo(number16([numbers[at], numbers[at + 1]])))
+        } else {
+            None
+        }
+    }
+}
+
 // The named bytes of a slot.
 #[derive(Clone, Copy)]
 struct SlotHead {
@@ -57,18 +81,6 @@ struct SlotHead {
 struct BodyHead {
     back: Back,
     used: u16,
-}
-
-fn number16(bytes: [u8; 2]) -> u16
-    ensures { λ r. ⌜ r ≡ le16 bytes 0 ⌝ }
-{
-    u16::from_le_bytes(bytes)
-}
-
-fn number32(bytes: [u8; 4]) -> u32
-    ensures { λ r. ⌜ r ≡ le32 bytes 0 ⌝ }
-{
-    u32::from_le_bytes(bytes)
 }
 
 fn slot_head(count: [u8; 2], identity: [u8; 4], parent: [u8; 4], slot: [u8; 2]) -> SlotHead
