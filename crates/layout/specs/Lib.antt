@@ -4,3 +4,4 @@ pub mod Head
 pub mod View
 pub mod Entries
 pub mod Identities
+pub mod Owners

@@ -4,4 +4,5 @@ pub mod entry;
 pub mod geometry;
 pub mod identity;
 pub mod number;
+pub mod owner;
 pub mod region;
