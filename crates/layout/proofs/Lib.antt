@@ -1,5 +1,3 @@
 pub mod Numbers
 pub mod Cells
 pub mod Parsing
-pub mod Entries
-pub mod Highest

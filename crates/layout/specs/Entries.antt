@@ -3,11 +3,9 @@ use Prim.Native.Nat.{ℕ}
 use mathlib.Core.Bool.{Bool, true, cond, _&&_}
 use mathlib.Core.List.{List, [], _∷_}
 use lib.ListN.{length, getD}
-use lib.Dec.{eqb, leb, ltb}
+use lib.Dec.{eqb}
 use Rattle.base.specs.declared.owner.Handle.{Handle}
 use Rattle.layout.specs.Format.{Geometry, Name, Cell, Entry, entry, no-entry, handle, le16, le32, between, entry-fits}
-use Rattle.layout.specs.declared.entry.Cell.{Cell as CardCell}
-use Rattle.layout.specs.declared.entry.Cell.the-variants.{Blank, Used, IllFormed}
 
 pub data State : Type 0 where
   blank : State
@@ -37,16 +35,3 @@ abbrev pub leads : State → Entry
 leads blank = no-entry
 leads (well-formed n c) = entry n c
 leads ill-formed = no-entry
-
--- what a parsed cell in the code stands for
-abbrev pub cell-view : CardCell → State
-cell-view Blank = blank
-cell-view (Used e) = well-formed (e .name .now) (e .child)
-cell-view IllFormed = ill-formed
-
--- the head of an entry: the length of its name and its child
-abbrev pub entry-child : List ℕ → List ℕ → Handle
-entry-child s i = handle (le16 s 0) (le32 i 0)
-
-abbrev pub entry-head-fits : Geometry → ℕ → Handle → Bool
-entry-head-fits g n c = leb 1 n && (leb n 24 && (leb 1 (c .slot .0) && (ltb (c .slot .0) (g .slots) && leb 1 (c .identity .0))))
