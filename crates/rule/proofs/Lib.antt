@@ -1,0 +1,8 @@
+mod Steps
+mod Walks
+mod Places
+mod Means
+mod Free
+mod Plans
+mod Holds
+mod Needed

@@ -1,0 +1,10 @@
+pub mod Agree
+pub mod Check
+pub mod Card
+pub mod Reading
+pub mod Changing
+pub mod Meaning
+pub mod Calls
+pub mod Run
+pub mod Cases
+pub mod Broken
