@@ -1,3 +1,6 @@
 pub mod Trips
 pub mod Parsed
 pub mod Log
+pub mod Stands
+pub mod Sorts
+pub mod Puts
