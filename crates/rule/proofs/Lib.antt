@@ -2,3 +2,5 @@ mod Steps
 mod Walks
 mod Places
 mod Means
+mod Free
+mod Plans

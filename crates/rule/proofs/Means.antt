@@ -16,7 +16,7 @@ use Rattle.base.specs.declared.owner.Handle.{Handle}
 use Rattle.base.specs.declared.owner.Back.{Back}
 use Rattle.layout.specs.Format.{Name, Cell, Geometry, handle, back, Slot, Content, blank, cover, slotted, file-body, folder-body, ill-formed, Entry, entry, no-entry, entry-of}
 use Rattle.rule.specs.Agree.{View, slot-at, slot-in, count, number, back-in, good, names, Place, places, places-of, places-over, from, cells-in, agrees, sound, has-name, leads-to, found, lists, first, some-is, given, same-handle, same-bytes, root, parent-of, reached, climbs, held}
-use Rattle.rule.specs.Meaning.{Fits, Body, Good, Sound, Reached, the-root, under, Before, Finds, Held, FreeSlot, FreeBody, Found-is-found, Good-is-good, Reached-is-reached, Held-is-held}
+use Rattle.rule.specs.Meaning.{Fits, Body, Good, Sound, Reached, the-root, under, Before, Finds, Held, FreeSlot, FreeBody, Rooted, Found-is-found, Good-is-good, Reached-is-reached, Held-is-held}
 use Rattle.rule.proofs.Steps.{clash, clash-none, given-some, some-is-true, cond-some, handle-true, handle-same, bytes-true, bytes-refl, names-true, names-from}
 use Rattle.rule.proofs.Places.{at, cells-at, First-cell, cell-first, cell-none, First-leaf, leaf-first, leaf-none}
 use Rattle.rule.proofs.Walks.{climbs-root, climbs-up, climbs-parts, climbs-within}
@@ -95,7 +95,7 @@ good-from v f r k b n = and-from _ _ (lt-ltb k (count r) b) (names-from (r .kind
 clash-entry : {A : Type 0} {n : Name} {c : Handle} → no-entry ≡ entry n c → A
 clash-entry e = let z : _≡_ {A = ℕ} 0 1 = cc in absurd (omega arith)
 
-same-slot : (g : Geometry) (v : View) (h : Handle) (r s : Slot) → Fits g v h r → Fits g v h s → r ≡ s
+pub same-slot : (g : Geometry) (v : View) (h : Handle) (r s : Slot) → Fits g v h r → Fits g v h s → r ≡ s
 same-slot g v h r s a b = let x = a .holds in let y = b .holds in cc
 
 -- a sound entry, over the list of places
@@ -345,13 +345,20 @@ held-parts g v top rooted b e = outer (some-is-true (back-in (v b)) (λ c. some-
 pub held-is-held : Held-is-held
 held-is-held g v rooted b = (held-parts g v (rooted .0) (rooted .1) b, held-from g v b)
 
-good-parts : (g : Geometry) (v : View) (h : Handle) (r : Slot) (k : ℕ) → Fits g v h r → good v h r k ≡ true → Good g v h k
+pub good-parts : (g : Geometry) (v : View) (h : Handle) (r : Slot) (k : ℕ) → Fits g v h r → good v h r k ≡ true → Good g v h k
 good-parts g v h r k fit e =
     let w = and-parts (ltb k (count r)) (names (r .kind) (back h k) (v (number r k))) e in
     record { slot = r; fits = fit; below = ltb-true k (count r) (w .0); body = names-true (r .kind) (back h k) (v (number r k)) (w .1) }
 
 pub good-is-good : Good-is-good
 good-is-good g v h r k fit = (good-parts g v h r k fit, λ w. subst (λ (z : Slot). good v h z k ≡ true) (same-slot g v h (w .slot) r (w .fits) fit) (good-from v h (w .slot) k (w .below) (w .body)))
+
+-- a handle that fits a reached slot is reached
+pub reached-fits : (g : Geometry) (v : View) (h : Handle) (r : Slot) → Rooted g v → Fits g v h r → reached g v (h .slot .0) ≡ true → Reached g v h
+reached-fits g v h r rooted fit e =
+    let w = reached-is-reached g v rooted (h .slot .0) .0 e in
+    let same : w .0 ≡ h .identity .0 = sym (reached-id g v (rooted .0) (rooted .1) (handle (h .slot .0) (w .0)) r (w .1) (fits-at g v h r fit)) ∙ fit .same in
+    subst (λ (i : ℕ). Reached g v (handle (h .slot .0) i)) same (w .1)
 
 -- ---- free
 
