@@ -1,6 +1,6 @@
-mod Steps
-mod Walks
-mod Places
-mod Means
-mod Free
-mod Plans
+pub mod Steps
+pub mod Walks
+pub mod Places
+pub mod Means
+pub mod Free
+pub mod Plans
