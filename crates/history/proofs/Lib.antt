@@ -4,3 +4,4 @@ pub mod Log
 pub mod Stands
 pub mod Sorts
 pub mod Puts
+pub mod Rules
