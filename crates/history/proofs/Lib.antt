@@ -5,3 +5,4 @@ pub mod Stands
 pub mod Sorts
 pub mod Puts
 pub mod Rules
+pub mod Moves

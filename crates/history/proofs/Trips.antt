@@ -64,6 +64,17 @@ body-lies g b up low =
     ∙ cond-false (leb b (g .slots)) slot-region _ (lt-leb b (g .slots) up)
     ∙ cond-true (ltb b (g .blocks)) body-region beyond (lt-ltb b (g .blocks) low)
 
+pub parse-cover : (g : Geometry) (z : Block) → parse g 0 z ≡ cover-of z
+unfolding parse
+parse-cover g z = refl
+
+pub parse-beyond : (g : Geometry) (b : ℕ) (z : Block) → g .slots < b → g .blocks ≤ b → parse g b z ≡ ill-formed
+unfolding parse
+parse-beyond g b z up far = ap (λ (t : Region). by-kind g t (getD z 0 0) z)
+    (cond-false (eqb b 0) cover-region _ (ne-eqb b 0 (λ e. omega arith))
+    ∙ cond-false (leb b (g .slots)) slot-region _ (lt-leb b (g .slots) up)
+    ∙ cond-false (ltb b (g .blocks)) body-region beyond (le-ltb b (g .blocks) far))
+
 -- ---- slots
 
 -- what a well-formed slot keeps
