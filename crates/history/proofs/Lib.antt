@@ -6,3 +6,4 @@ pub mod Sorts
 pub mod Puts
 pub mod Rules
 pub mod Moves
+pub mod Invariant
