@@ -3,6 +3,8 @@ mod Walks
 mod Places
 mod Means
 mod Free
+mod Formed
 mod Plans
 mod Holds
 mod Needed
+mod Blocks
