@@ -5,3 +5,6 @@ pub mod Reading
 pub mod Changing
 pub mod Meaning
 pub mod Calls
+pub mod Run
+pub mod Cases
+pub mod Broken
