@@ -22,8 +22,9 @@ use Rattle.rule.specs.Card.{Card, Ready}
 use Rattle.rule.specs.Reading.{step, components}
 use Rattle.rule.specs.Changing.{new-slot, last-identity}
 use Rattle.rule.specs.Meaning.{Finds, the-root}
-use Rattle.rule.specs.Calls.{Formats, Format-means}
+use Rattle.rule.specs.Calls.{Formats}
 use Rattle.rule.proofs.Plans.{clash-ok}
+use Rattle.rule.proofs.Blocks.{format-means}
 use Rattle.history.specs.Events.{Phase, closed, opened, surveyed, State, Event, Has, Reads, find, path, read}
 use Rattle.history.specs.History.{Formatted, Moment, present, History, Deed, nothing, gives}
 use Rattle.history.specs.Laws.{Written, Made, OnTheWay, Reads-what-was-written, Finds-what-was-made, Paths-lead-to-what-was-made}
@@ -109,9 +110,9 @@ module _ (g : Geometry) (s : State) (ms : List Moment) (iv : Inv g s ms (present
 
 -- ---- the format
 
-module _ (means : Format-means) (g : Geometry) (s : State) (f : Formatted g s) where
+module _ (g : Geometry) (s : State) (f : Formatted g s) where
   fm : Formats (f .before .count) (g .blocks) (g .slots) (f .puts)
-  fm = means (f .before .count) (g .blocks) (g .slots) (f .puts) (f .plan)
+  fm = format-means (f .before .count) (g .blocks) (g .slots) (f .puts) (f .plan)
 
   limits : Limits g
   limits = record { low = fm .slots .0; thin = fm .slots .1; bodies = (let e = fm .blocks .0 in omega arith); small = fm .blocks .1 }
@@ -173,54 +174,53 @@ module _ (means : Format-means) (g : Geometry) (s : State) (f : Formatted g s) w
       plain : (b : ℕ) (y : Content) → May g (s .device) b y → Plain b y
       plain b y i = subst (Plain b) (sym (only-may g (s .device) only b y i)) (holds b)
 
-module _ (means : Format-means) where
-  pub history-inv : (g : Geometry) (s : State) (ms : List Moment) → History g s ms → Inv g s ms (present s ms)
-  history-inv g s [] h = start-inv means g s h
-  history-inv g s (m ∷ ms) h =
-      let iv = history-inv g s ms (h .0) in
-      move-inv g s ms iv m (moves g s ms iv (m .state) (m .event) (h .1))
+pub history-inv : (g : Geometry) (s : State) (ms : List Moment) → History g s ms → Inv g s ms (present s ms)
+history-inv g s [] h = start-inv g s h
+history-inv g s (m ∷ ms) h =
+    let iv = history-inv g s ms (h .0) in
+    move-inv g s ms iv m (moves g s ms iv (m .state) (m .event) (h .1))
 
-  -- ---- the laws on reads and finds
+-- ---- the laws on reads and finds
 
-  known-geometry : (g : Geometry) (m : _) (p : Phase) (x : Ready) (h : Geometry) → Carded g m p → Has p x → x ≡ Ok h → h ≡ g
-  known-geometry g m closed x h c has live = absurd has
-  known-geometry g m (opened o) x h c has live = c .1 h (has ∙ live) .0
-  known-geometry g m (surveyed k) x h c has live = c h (has ∙ live) .0
+known-geometry : (g : Geometry) (m : _) (p : Phase) (x : Ready) (h : Geometry) → Carded g m p → Has p x → x ≡ Ok h → h ≡ g
+known-geometry g m closed x h c has live = absurd has
+known-geometry g m (opened o) x h c has live = c .1 h (has ∙ live) .0
+known-geometry g m (surveyed k) x h c has live = c h (has ∙ live) .0
 
-  pub reads-stand : Reads-what-was-written
-  reads-stand g s t ms h k room x hist = elim (hist .1 .turn) [
-      inr w ↦ clash-ok (sym (w .2))
-    | inl w ↦
-        (let a = read-ok h k room (hist .1 .ready) (present s ms .device .shown) x (sym (w .0)) in
-        let same = known-geometry g (present s ms .device) (present s ms .card) (hist .1 .ready) (a .0) (iv .card) (hist .1 .has) (a .1) in
-        let l : LeafHolds g (view g (present s ms .device)) h k x = subst (λ (y : Geometry). LeafHolds y (seen y (present s ms .device .shown)) h k x) same (a .2) in
-        let b = number (l .slot) k in
-        wrote-earlier s ms h k x (iv .logged b (file-body (back h k) x) (may-shown g (present s ms .device) b (file-body (back h k) x) (l .body)))) ]
-    where
-      iv : Inv g s ms (present s ms)
-      iv = history-inv g s ms (hist .0)
+pub reads-stand : Reads-what-was-written
+reads-stand g s t ms h k room x hist = elim (hist .1 .turn) [
+    inr w ↦ clash-ok (sym (w .2))
+  | inl w ↦
+      (let a = read-ok h k room (hist .1 .ready) (present s ms .device .shown) x (sym (w .0)) in
+      let same = known-geometry g (present s ms .device) (present s ms .card) (hist .1 .ready) (a .0) (iv .card) (hist .1 .has) (a .1) in
+      let l : LeafHolds g (view g (present s ms .device)) h k x = subst (λ (y : Geometry). LeafHolds y (seen y (present s ms .device .shown)) h k x) same (a .2) in
+      let b = number (l .slot) k in
+      wrote-earlier s ms h k x (iv .logged b (file-body (back h k) x) (may-shown g (present s ms .device) b (file-body (back h k) x) (l .body)))) ]
+  where
+    iv : Inv g s ms (present s ms)
+    iv = history-inv g s ms (hist .0)
 
-  -- what find leads to at any point of a history
-  pub found-made : (g : Geometry) (s : State) (ms : List Moment) → History g s ms → (f : Handle) (n : Name) (c : Handle) → Finds g (view g (present s ms .device)) f n c → Made s ms f n c
-  found-made g s ms hist f n c d =
-      let iv = history-inv g s ms hist in
-      let b = number (d .sound .slot) (d .leaf) in
-      made-earlier s ms c f n (iv .logged b (folder-body (back f (d .leaf)) (d .sound .cells)) (may-shown g (present s ms .device) b (folder-body (back f (d .leaf)) (d .sound .cells)) (d .sound .body)) (d .place) n c (d .sound .here))
+-- what find leads to at any point of a history
+pub found-made : (g : Geometry) (s : State) (ms : List Moment) → History g s ms → (f : Handle) (n : Name) (c : Handle) → Finds g (view g (present s ms .device)) f n c → Made s ms f n c
+found-made g s ms hist f n c d =
+    let iv = history-inv g s ms hist in
+    let b = number (d .sound .slot) (d .leaf) in
+    made-earlier s ms c f n (iv .logged b (folder-body (back f (d .leaf)) (d .sound .cells)) (may-shown g (present s ms .device) b (folder-body (back f (d .leaf)) (d .sound .cells)) (d .sound .body)) (d .place) n c (d .sound .here))
 
-  pub finds-stand : Finds-what-was-made
-  finds-stand g s t ms f n c hist = elim (hist .1 .turn) [
-      inr w ↦ clash-ok (sym (w .2))
-    | inl w ↦
-        (let a = find-ok f n (hist .1 .ready) (present s ms .device .shown) c (sym (w .0)) in
-        let same = known-geometry g (present s ms .device) (present s ms .card) (hist .1 .ready) (a .0) (history-inv g s ms (hist .0) .card) (hist .1 .has) (a .1) in
-        found-made g s ms (hist .0) f n c (subst (λ (y : Geometry). Finds y (seen y (present s ms .device .shown)) f n c) same (a .2))) ]
+pub finds-stand : Finds-what-was-made
+finds-stand g s t ms f n c hist = elim (hist .1 .turn) [
+    inr w ↦ clash-ok (sym (w .2))
+  | inl w ↦
+      (let a = find-ok f n (hist .1 .ready) (present s ms .device .shown) c (sym (w .0)) in
+      let same = known-geometry g (present s ms .device) (present s ms .card) (hist .1 .ready) (a .0) (history-inv g s ms (hist .0) .card) (hist .1 .has) (a .1) in
+      found-made g s ms (hist .0) f n c (subst (λ (y : Geometry). Finds y (seen y (present s ms .device .shown)) f n c) same (a .2))) ]
 
-  on-the-way : (g : Geometry) (s : State) (ms : List Moment) → History g s ms → (a : Handle) (ns : List Name) (f : Handle) (n : Name) (c : Handle) →
-      OnTheWay g (view g (present s ms .device)) a ns f n c → Made s ms f n c
-  on-the-way g s ms hist a [] f n c w = absurd w
-  on-the-way g s ms hist a (x ∷ xs) f n c w = elim (w .2) [
-      inr rest ↦ on-the-way g s ms hist (w .0) xs f n c rest
-    | inl here ↦ found-made g s ms hist f n c (step-ok g (view g (present s ms .device)) f n c (ap (λ (h : Handle). step g (view g (present s ms .device)) h n) (here .0) ∙ ap (step g (view g (present s ms .device)) a) (here .1) ∙ w .1 ∙ ap Ok (sym (here .2)))) ]
+on-the-way : (g : Geometry) (s : State) (ms : List Moment) → History g s ms → (a : Handle) (ns : List Name) (f : Handle) (n : Name) (c : Handle) →
+    OnTheWay g (view g (present s ms .device)) a ns f n c → Made s ms f n c
+on-the-way g s ms hist a [] f n c w = absurd w
+on-the-way g s ms hist a (x ∷ xs) f n c w = elim (w .2) [
+    inr rest ↦ on-the-way g s ms hist (w .0) xs f n c rest
+  | inl here ↦ found-made g s ms hist f n c (step-ok g (view g (present s ms .device)) f n c (ap (λ (h : Handle). step g (view g (present s ms .device)) h n) (here .0) ∙ ap (step g (view g (present s ms .device)) a) (here .1) ∙ w .1 ∙ ap Ok (sym (here .2)))) ]
 
-  pub paths-stand : Paths-lead-to-what-was-made
-  paths-stand g s t ms p r f n c hist w = on-the-way g s ms (hist .0) root (components p) f n c w
+pub paths-stand : Paths-lead-to-what-was-made
+paths-stand g s t ms p r f n c hist w = on-the-way g s ms (hist .0) root (components p) f n c w
