@@ -7,3 +7,5 @@ pub mod Puts
 pub mod Rules
 pub mod Moves
 pub mod Invariant
+pub mod Trail
+pub mod Keep
