@@ -9,3 +9,4 @@ pub mod Moves
 pub mod Invariant
 pub mod Trail
 pub mod Keep
+pub mod Paths
