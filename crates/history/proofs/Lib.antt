@@ -10,3 +10,4 @@ pub mod Invariant
 pub mod Trail
 pub mod Keep
 pub mod Paths
+pub mod Settled
