@@ -11,3 +11,4 @@ pub mod Trail
 pub mod Keep
 pub mod Paths
 pub mod Settled
+pub mod Example

@@ -1,3 +1,4 @@
 pub mod Events
 pub mod History
 pub mod Laws
+pub mod Example
