@@ -1,10 +1,12 @@
-mod Steps
-mod Walks
-mod Places
-mod Means
-mod Free
-mod Formed
-mod Plans
-mod Holds
-mod Needed
-mod Blocks
+pub mod Steps
+pub mod Walks
+pub mod Places
+pub mod Means
+pub mod Free
+pub mod Formed
+pub mod Plans
+pub mod Holds
+pub mod Needed
+pub mod Blocks
+pub mod Answered
+pub mod Lines

@@ -21,7 +21,7 @@ use Rattle.rule.proofs.Steps.{clash, clash-none, given-some, some-is-true, con
 use Rattle.rule.proofs.Places.{at, cells-at, First-cell, cell-first, cell-none, First-leaf, leaf-first, leaf-none}
 use Rattle.rule.proofs.Walks.{climbs-root, climbs-up, climbs-parts, climbs-within}
 
-slot-in-some : (c : Content) (r : Slot) → slot-in c ≡ Some r → c ≡ slotted r
+pub slot-in-some : (c : Content) (r : Slot) → slot-in c ≡ Some r → c ≡ slotted r
 slot-in-some (slotted q) r e = let z : q ≡ r = cc in ap {B = Content} slotted z
 slot-in-some blank r e = clash-none e
 slot-in-some (cover g) r e = clash-none e

@@ -53,7 +53,7 @@ demand-ok (Some x) r a e = let s : x ≡ a = cc in ap {B = Option _} Some s
 pub ok-same : {A E : Type 0} {a b : A} → _≡_ {A = Result A E} (Ok a) (Ok b) → a ≡ b
 ok-same e = cc
 
-kind-true : (a b : Kind) → same-kind a b ≡ true → a ≡ b
+pub kind-true : (a b : Kind) → same-kind a b ≡ true → a ≡ b
 kind-true File File e = refl
 kind-true File Folder e = clash e
 kind-true Folder File e = clash e
@@ -89,7 +89,7 @@ standing g v d h r rooted w = record { fits = w .fits; reached = reached-fits g 
 -- ---- write and shorten
 
 -- a good leaf of a file
-file-leaf : (v : View) (h : Handle) (r : Slot) (k : ℕ) → r .kind ≡ File → good v h r k ≡ true → (k < count r) × ((old : List ℕ) × (v (number r k) ≡ file-body (back h k) old))
+pub file-leaf : (v : View) (h : Handle) (r : Slot) (k : ℕ) → r .kind ≡ File → good v h r k ≡ true → (k < count r) × ((old : List ℕ) × (v (number r k) ≡ file-body (back h k) old))
 file-leaf v h r k d e =
     let w = and-parts (ltb k (count r)) (names (r .kind) (back h k) (v (number r k))) e in
     (ltb-true k (count r) (w .0), go (names-true (r .kind) (back h k) (v (number r k)) (w .1)))
