@@ -10,3 +10,4 @@ pub mod Needed
 pub mod Blocks
 pub mod Answered
 pub mod Lines
+pub mod Accepted

@@ -185,11 +185,11 @@ module _ (g : Geometry) (v : View) (f : Handle) (r : Slot) (fit : Fits g v f r) 
   shut q = not (sound g v f q)
 
   -- no place passes: every entry over good leaves is sound
-  all-sound : open-place g v f r ≡ None → (j q : ℕ) → OverGood v f r j q → SoundAt g v f j q
+  pub all-sound : open-place g v f r ≡ None → (j q : ℕ) → OverGood v f r j q → SoundAt g v f j q
   all-sound e j q o =
       sound-at j q o (not-false _ (cell-none shut j 0 (cells-at v r j) (leaf-none shut v f r 0 (count r) e j (omega arith) (omega (arith, o .below)) (over-good j q o)) q (over-inside j q o)))
 
-  in-place : (c : Card) (e : Cell) (q : Place) → open-place g v f r ≡ Some q → InPlace g v c f r e (with-cell v f r q e ∷ []) (c .next-body)
+  pub in-place : (c : Card) (e : Cell) (q : Place) → open-place g v f r ≡ Some q → InPlace g v c f r e (with-cell v f r q e ∷ []) (c .next-body)
   in-place c e q h = leaf (leaf-first shut v f r 0 (count r) q h)
     where
       leaf : First-leaf shut v f r 0 (count r) q → InPlace g v c f r e (with-cell v f r q e ∷ []) (c .next-body)
@@ -286,7 +286,7 @@ is-hollow g v h e k q (n, c, s) = go (first (sound g v h) (places v h (s .slot))
     go (Some a) is = clash (sym e ∙ opened ∙ ap (λ (o : Option Place). some-is o (λ q. true)) is)
 
 -- the body with another cell, in the words of what was found
-found-cell : (g : Geometry) (v : View) (f : Handle) (r : Slot) (n : Name) (c : Handle) (q : Place) (e : Cell) → Fits g v f r → (s : Finds g v f n c) → q .leaf ≡ s .leaf → q .place ≡ s .place →
+pub found-cell : (g : Geometry) (v : View) (f : Handle) (r : Slot) (n : Name) (c : Handle) (q : Place) (e : Cell) → Fits g v f r → (s : Finds g v f n c) → q .leaf ≡ s .leaf → q .place ≡ s .place →
     with-cell v f r q e ≡ store (number (s .sound .slot) (s .leaf)) (folder-body (back f (s .leaf)) (set (s .sound .cells) (s .place) e))
 found-cell g v f r n c q e fit s leaf place =
     ap (λ (z : Slot). with-cell v f z q e) (same-slot g v f r (s .sound .slot) fit (s .sound .fits))

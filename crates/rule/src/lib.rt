@@ -4,7 +4,7 @@ ghost use Rattle.rule.specs.Meaning.{Found-is-found, Good-is-good, Reached-is-
 ghost use Rattle.rule.specs.Readings.{Opening-means, Steps-agree, Survey-covers, Cursors-start, Create-keeps-range, Write-keeps-range, Find-means, Path-means, Status-means, Read-means, List-means, Damage-means};
 ghost use Rattle.rule.specs.Cases.{Cases-hold};
 ghost use Rattle.rule.specs.Broken.{Fresh-identity-needed, Untaken-name-needed, Free-body-needed, Empty-folder-needed};
-ghost use Rattle.rule.specs.Calls.{Create-means, Write-means, Shorten-means, Remove-means, Format-means, Create-once, Write-once, Shorten-once, Remove-once, Format-once};
+ghost use Rattle.rule.specs.Calls.{Create-means, Write-means, Shorten-means, Remove-means, Format-means, Create-accepted, Write-accepted, Shorten-accepted, Remove-accepted, Create-once, Write-once, Shorten-once, Remove-once, Format-once};
 
 // What computes is the rule as the relations have it.
 pub fn meaning_stands() -> u8
@@ -57,6 +57,16 @@ pub fn plans_stand() -> u8
     ensures shortens { λ _. ⌜ Shorten-means ⌝ }
     ensures removes { λ _. ⌜ Remove-means ⌝ }
     ensures formats { λ _. ⌜ Format-means ⌝ }
+{
+    0
+}
+
+// And a call of which that can be said is accepted.
+pub fn calls_are_accepted() -> u8
+    ensures create { λ _. ⌜ Create-accepted ⌝ }
+    ensures write { λ _. ⌜ Write-accepted ⌝ }
+    ensures shorten { λ _. ⌜ Shorten-accepted ⌝ }
+    ensures remove { λ _. ⌜ Remove-accepted ⌝ }
 {
     0
 }
