@@ -1,7 +1,7 @@
 -- A call of which the relation holds is accepted, with that plan.
-use Prim.Native.Nat.{ℕ, zero, suc, _+_, _≤_, _<_}
-use mathlib.Core.Path.{_≡_, refl, sym, ap, subst, _∙_}
-use mathlib.Core.List.{List, [], _∷_, _++_}
+use Prim.Native.Nat.{ℕ, suc, _≤_, _<_}
+use mathlib.Core.Path.{_≡_, refl, sym, ap, _∙_}
+use mathlib.Core.List.{List, [], _∷_}
 use mathlib.Core.Bool.{Bool, true, false, cond, not, _&&_}
 use mathlib.Core.Logic.{_⊎_, inl, inr}
 use native.Mathlib.Omega.{arith}
@@ -9,23 +9,20 @@ use lib.ListN.{length, set}
 use lib.Dec.{eqb, leb, ltb}
 use Rattle.std.specs.declared.option.Option.{Option}
 use Rattle.std.specs.declared.option.Option.the-variants.{Some, None}
-use Rattle.std.specs.declared.result.Result.{Result}
-use Rattle.std.specs.declared.result.Result.the-variants.{Ok, Err}
+use Rattle.std.specs.declared.result.Result.the-variants.{Ok}
 use Rattle.std.proofs.shelf.Tests.{and-from, eq-eqb, ne-eqb, le-leb, lt-ltb, le-ltb, not-from-false, cases-order, cond-true, cond-false}
 use Rattle.base.specs.declared.owner.Kind.{Kind}
 use Rattle.base.specs.declared.owner.Kind.the-variants.{File, Folder}
 use Rattle.base.specs.declared.owner.Handle.{Handle}
 use Rattle.device.specs.declared.put.Put.{Put}
-use Rattle.layout.specs.Format.{Name, Cell, Geometry, handle, back, Slot, Content, blank, file-body, folder-body, Entry, entry, entry-of, good-name, cell, blank-cell, leaf-limit}
-use Rattle.rule.specs.Agree.{Shown, View, seen, same-kind, slot-at, count, number, good, Place, places, sound, found, first, free-slot, free-body, reached, some-is}
-use Rattle.rule.specs.Check.{Answer, _>>=_, check, demand}
+use Rattle.layout.specs.Format.{Name, Cell, Geometry, handle, back, Slot, blank, file-body, folder-body, entry, entry-of, good-name, cell, blank-cell, leaf-limit}
+use Rattle.rule.specs.Agree.{View, seen, same-kind, count, number, good, Place, places, sound, found, first, free-slot, free-body, reached, some-is}
 use Rattle.rule.specs.Card.{Card, Plan}
 use Rattle.rule.specs.Reading.{fits, kind-is, named, child-of}
 use Rattle.rule.specs.Changing.{store, store-slot, changing, with-cell, open-place, untaken, placed, create, new-slot, grown, cut-to, keeps, replaces, appends, below-count, write, shorten, has-entries, remove, last-identity}
-use Rattle.rule.specs.Meaning.{Fits, Sound, Before, Finds}
-use Rattle.rule.specs.Calls.{Standing, OverGood, SoundAt, InPlace, OnNewLeaf, Creates, Replaces, Appends, Writes, Shortens, Removes, Create-accepted, Write-accepted, Shorten-accepted, Remove-accepted}
-use Rattle.rule.proofs.Steps.{clash, some-is-true}
-use Rattle.rule.proofs.Means.{fits-at, good-from, found-is-found, first-sound, reached-from, same-slot}
+use Rattle.rule.specs.Meaning.{Fits, Sound, Finds}
+use Rattle.rule.specs.Calls.{Standing, SoundAt, InPlace, OnNewLeaf, Replaces, Appends, Create-accepted, Write-accepted, Shorten-accepted, Remove-accepted}
+use Rattle.rule.proofs.Means.{fits-at, good-from, found-is-found, first-sound, reached-from}
 use Rattle.rule.proofs.Plans.{in-place, all-sound, found-cell}
 use Rattle.rule.proofs.Answered.{bind-from, check-from, demand-from, kind-same, fits-answers, found-once}
 

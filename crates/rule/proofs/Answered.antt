@@ -1,11 +1,11 @@
 -- What opening, surveying and the reading calls answer is the relation.
 use Prim.Native.Nat.{ℕ, zero, suc, _+_, _-_, _≤_, _<_, max}
 use mathlib.Core.Path.{_≡_, refl, sym, ap, subst, _∙_}
-use mathlib.Core.List.{List, [], _∷_, _++_, map}
-use mathlib.Core.Bool.{Bool, true, false, cond, not, _&&_}
-use mathlib.Core.Logic.{_⊎_, inl, inr, _↔_}
+use mathlib.Core.List.{List, [], _∷_}
+use mathlib.Core.Bool.{Bool, true, false, cond, _&&_}
+use mathlib.Core.Logic.{_⊎_, inl, inr}
 use native.Mathlib.Omega.{arith}
-use lib.ListN.{length, getD}
+use lib.ListN.{getD}
 use lib.Dec.{eqb, leb, ltb}
 use Rattle.std.specs.declared.option.Option.{Option}
 use Rattle.std.specs.declared.option.Option.the-variants.{Some, None}
@@ -17,18 +17,17 @@ use Rattle.base.specs.declared.owner.Kind.the-variants.{File, Folder}
 use Rattle.base.specs.declared.owner.Handle.{Handle}
 use Rattle.base.specs.declared.refusal.Refusal.{Refusal}
 use Rattle.base.specs.declared.refusal.Refusal.the-variants.{NoSuchName}
-use Rattle.base.specs.declared.refusal.PathRefusal.{PathRefusal}
 use Rattle.device.specs.declared.put.Put.{Put}
-use Rattle.layout.specs.Format.{Name, Cell, Geometry, back, Slot, Content, blank, cover, slotted, file-body, folder-body, ill-formed, Entry, entry, entry-of, good-name, in-limits, cell, cover-of}
+use Rattle.layout.specs.Format.{Name, Cell, Geometry, back, Slot, Content, blank, cover, slotted, file-body, folder-body, ill-formed, entry, entry-of, good-name, in-limits, cell, cover-of}
 use Rattle.layout.specs.Identities.{told}
-use Rattle.rule.specs.Agree.{Shown, View, seen, same-kind, same-handle, slot-in, slot-at, from, some-is, count, number, names, good, Place, found, root}
+use Rattle.rule.specs.Agree.{Shown, View, seen, same-kind, same-handle, slot-in, slot-at, from, count, number, good, Place, found, root}
 use Rattle.rule.specs.Check.{Answer, _>>=_, check, demand}
-use Rattle.rule.specs.Card.{Ready, Card, Plan, is-root, geometry-in, opening, Opened, opened, Surveying, examined, survey-step, highest-of, ended-by, surveyed}
-use Rattle.rule.specs.Reading.{fits, kind-is, reading, child-of, step, named, find, components, at-component, all-named, walk, path, Status, status, bytes-in, read}
-use Rattle.rule.specs.Meaning.{Fits, Body, Sound, Before, Finds}
-use Rattle.rule.specs.Calls.{Creates, InPlace, OnNewLeaf, Writes, Replaces, Appends}
+use Rattle.rule.specs.Card.{Ready, is-root, geometry-in, opening, opened, Surveying, examined, survey-step, highest-of, ended-by, surveyed}
+use Rattle.rule.specs.Reading.{fits, kind-is, reading, child-of, step, named, find, components, at-component, all-named, walk, path, status, bytes-in, read}
+use Rattle.rule.specs.Meaning.{Fits, Finds}
+use Rattle.rule.specs.Calls.{InPlace, OnNewLeaf, Replaces, Appends}
 use Rattle.rule.specs.Readings.{Opens, Opening-means, Steps-agree, Covers, Survey-covers, InRange, Cursors-start, Create-keeps-range, Write-keeps-range, Find-means, Leads, AllNames, Path-means, Reads, Read-means, Status-means}
-use Rattle.rule.proofs.Steps.{clash, clash-none, some-is-true, handle-true, handle-same, names-true, names-file}
+use Rattle.rule.proofs.Steps.{clash-none, some-is-true, handle-true, handle-same}
 use Rattle.rule.proofs.Means.{slot-in-some, fits-at, good-from, same-slot, found-is-found}
 use Rattle.rule.proofs.Formed.{cover-limits}
 use Rattle.rule.proofs.Plans.{clash-ok, bind-ok, check-ok, demand-ok, ok-same, fits-ok, kind-true, file-leaf}

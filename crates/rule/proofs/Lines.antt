@@ -3,25 +3,25 @@ use Prim.Native.Nat.{ℕ, zero, suc, _+_, _≤_, _<_}
 use mathlib.Core.Path.{_≡_, refl, sym, ap, subst, _∙_}
 use mathlib.Core.List.{List, [], _∷_, _++_, map}
 use mathlib.Core.Bool.{Bool, true, false, cond, not}
-use mathlib.Core.Logic.{_⊎_, inl, inr, _↔_}
+use mathlib.Core.Logic.{_⊎_, inl, inr}
 use native.Mathlib.Omega.{arith}
 use native.Mathlib.Nat.{zero-add}
 use lib.ListN.{length, getD}
 use Rattle.std.specs.declared.option.Option.{Option}
 use Rattle.std.specs.declared.option.Option.the-variants.{Some, None}
-use Rattle.std.specs.declared.result.Result.the-variants.{Ok, Err}
-use Rattle.std.proofs.shelf.Tests.{cases-lt, not-true, not-from-false, cases-bool}
+use Rattle.std.specs.declared.result.Result.the-variants.{Ok}
+use Rattle.std.proofs.shelf.Tests.{cases-lt, not-true, not-from-false}
 use Rattle.base.specs.declared.owner.Kind.the-variants.{Folder}
 use Rattle.base.specs.declared.owner.Handle.{Handle}
 use Rattle.device.specs.Model.{In}
-use Rattle.layout.specs.Format.{Name, Cell, Geometry, handle, Slot, Content, Entry, entry, entry-of}
-use Rattle.rule.specs.Agree.{Shown, View, seen, slot-at, those, from, count, number, good, Place, cells-in, places-of, places-over, places, sound, reached, slots-of}
+use Rattle.layout.specs.Format.{Name, Cell, Geometry, handle, Slot, entry-of}
+use Rattle.rule.specs.Agree.{View, seen, slot-at, those, from, count, good, Place, places-of, places-over, places, sound, reached, slots-of}
 use Rattle.rule.specs.Reading.{reading, EntryLine, entry-line, list, DamageLine, bad-leaves-of, bad-leaves, damage}
-use Rattle.rule.specs.Meaning.{Fits, Good, Sound, Reached, Rooted}
+use Rattle.rule.specs.Meaning.{Fits, Sound}
 use Rattle.rule.specs.Readings.{List-means, Damaged, Damage-means}
-use Rattle.rule.proofs.Steps.{clash, clash-none}
+use Rattle.rule.proofs.Steps.{clash}
 use Rattle.rule.proofs.Places.{at, cells-at}
-use Rattle.rule.proofs.Means.{Agreed, agrees-true, At-leaf, leaf-is, Listed, sound-listed, slot-some, fits-at, fits-from, good-is-good, reached-is-reached, reached-fits, reached-from, same-slot}
+use Rattle.rule.proofs.Means.{agrees-true, leaf-is, sound-listed, fits-at, fits-from, good-is-good, reached-fits, reached-from}
 use Rattle.rule.proofs.Plans.{bind-ok, ok-same}
 use Rattle.rule.proofs.Answered.{reading-ok}
 

@@ -1,8 +1,8 @@
 -- Taking an accepted plan apart, check by check.
-use Prim.Native.Nat.{ℕ, zero, suc, _+_, _-_, _≤_, _<_}
+use Prim.Native.Nat.{ℕ, suc, _+_, _≤_, _<_}
 use mathlib.Core.Path.{_≡_, refl, sym, ap, subst, _∙_}
-use mathlib.Core.List.{List, [], _∷_, _++_}
-use mathlib.Core.Bool.{Bool, true, false, cond, not, _&&_}
+use mathlib.Core.List.{List, [], _∷_}
+use mathlib.Core.Bool.{Bool, true, false, cond, not}
 use mathlib.Core.Logic.{_⊎_, inl, inr}
 use native.Mathlib.Omega.{arith}
 use native.Mathlib.Nat.{zero-add}
@@ -16,20 +16,19 @@ use Rattle.std.proofs.shelf.Tests.{and-parts, eqb-true, eqb-false, leb-true, lt
 use Rattle.base.specs.declared.owner.Kind.{Kind}
 use Rattle.base.specs.declared.owner.Kind.the-variants.{File, Folder}
 use Rattle.base.specs.declared.owner.Handle.{Handle}
-use Rattle.base.specs.declared.owner.Back.{Back}
 use Rattle.base.specs.declared.refusal.Refusal.{Refusal}
 use Rattle.device.specs.declared.put.Put.{Put}
-use Rattle.layout.specs.Format.{Name, Cell, Geometry, handle, back, Slot, Content, blank, file-body, folder-body, Entry, entry, entry-of, good-name, cell, blank-cell, leaf-limit}
-use Rattle.rule.specs.Agree.{Shown, Place, places, sound, found, cells-in, free-slot, View, seen, same-kind, slot-at, count, number, good, names, free-body, reached, first, some-is}
-use Rattle.rule.specs.Check.{Answer, _>>=_, check, demand}
+use Rattle.layout.specs.Format.{Name, Cell, Geometry, handle, back, Slot, Content, blank, file-body, folder-body, entry-of, cell, blank-cell, leaf-limit}
+use Rattle.rule.specs.Agree.{Place, places, sound, found, cells-in, View, seen, same-kind, count, number, good, names, reached, first, some-is}
+use Rattle.rule.specs.Check.{_>>=_, check, demand}
 use Rattle.rule.specs.Card.{Card, Plan}
 use Rattle.rule.specs.Reading.{fits, kind-is, named, child-of}
-use Rattle.rule.specs.Changing.{store, store-slot, with-cell, open-place, untaken, placed, create, new-slot, changing, replaces, appends, below-count, write, shorten, grown, cut-to, has-entries, remove, last-identity, keeps}
-use Rattle.rule.specs.Meaning.{Fits, Body, Good, Sound, Reached, Before, Finds, Rooted}
-use Rattle.rule.specs.Calls.{Standing, OverGood, SoundAt, InPlace, OnNewLeaf, Creates, Create-means, Replaces, Appends, Writes, Write-means, Shortens, Shorten-means, Removes, Remove-means}
+use Rattle.rule.specs.Changing.{store, store-slot, with-cell, open-place, untaken, placed, create, changing, replaces, appends, below-count, write, shorten, grown, cut-to, has-entries, remove, last-identity}
+use Rattle.rule.specs.Meaning.{Fits, Body, Before, Finds, Rooted}
+use Rattle.rule.specs.Calls.{Standing, OverGood, SoundAt, InPlace, OnNewLeaf, Creates, Create-means, Replaces, Appends, Write-means, Shorten-means, Remove-means}
 use Rattle.rule.proofs.Places.{First-leaf, leaf-first, leaf-none, First-cell, cell-first, cell-none, cells-at, at}
-use Rattle.rule.proofs.Means.{Agreed, agrees-true, fits-at, fits-from, leaf-is, good-from, sound-listed, found-is-found, none-sound, reached-fits, same-slot}
-use Rattle.rule.proofs.Steps.{clash, clash-none, names-true, names-folder, some-is-true}
+use Rattle.rule.proofs.Means.{agrees-true, fits-at, fits-from, leaf-is, good-from, sound-listed, found-is-found, none-sound, reached-fits, same-slot}
+use Rattle.rule.proofs.Steps.{clash, names-true}
 use Rattle.rule.proofs.Free.{slot-given, body-given}
 
 pub clash-ok : {A B E : Type 0} {a : A} {r : E} → Err r ≡ Ok a → B

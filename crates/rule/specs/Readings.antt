@@ -1,18 +1,18 @@
 -- What opening, surveying and the reading calls say, as relations on the blocks shown.
-use Prim.Native.Nat.{ℕ, zero, suc, _+_, _≤_, _<_}
+use Prim.Native.Nat.{ℕ, _≤_, _<_}
 use mathlib.Core.Path.{_≡_}
 use mathlib.Core.List.{List, [], _∷_}
-use mathlib.Core.Bool.{Bool, true, false}
-use mathlib.Core.Logic.{_⊎_, _↔_}
-use Rattle.std.specs.declared.result.Result.the-variants.{Ok, Err}
+use mathlib.Core.Bool.{true}
+use mathlib.Core.Logic.{_↔_}
+use Rattle.std.specs.declared.result.Result.the-variants.{Ok}
 use Rattle.base.specs.declared.owner.Kind.{Kind}
 use Rattle.base.specs.declared.owner.Kind.the-variants.{File, Folder}
 use Rattle.base.specs.declared.owner.Handle.{Handle}
 use Rattle.device.specs.Model.{In}
-use Rattle.layout.specs.Format.{Name, Geometry, back, Slot, cover, slotted, file-body, good-name, cover-of}
+use Rattle.layout.specs.Format.{Name, Geometry, back, Slot, cover, file-body, good-name, cover-of}
 use Rattle.layout.specs.Identities.{told}
 use Rattle.rule.specs.Agree.{Shown, View, seen, count, number, root}
-use Rattle.rule.specs.Card.{Ready, Card, Plan, opening, Opened, opened, Surveying, survey-step, surveyed}
+use Rattle.rule.specs.Card.{Card, Plan, opening, Opened, opened, Surveying, survey-step, surveyed}
 use Rattle.rule.specs.Reading.{find, components, path, EntryLine, list, DamageLine, damage, Status, status, read}
 use Rattle.rule.specs.Meaning.{Fits, Good, Sound, Reached, Finds, Rooted}
 use Rattle.rule.specs.Calls.{Creates, Writes}
