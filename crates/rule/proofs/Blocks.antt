@@ -1,25 +1,21 @@
 -- The blocks of a call: each goes at most once, and what a format leaves.
 use Prim.Native.Nat.{ℕ, zero, suc, _+_, _-_, _≤_, _<_}
-use mathlib.Core.Path.{_≡_, refl, sym, ap, subst, _∙_}
-use mathlib.Core.List.{List, [], _∷_, _++_}
-use mathlib.Core.Bool.{Bool, true, false, cond, _&&_}
+use mathlib.Core.Path.{_≡_, refl, sym, subst, _∙_}
+use mathlib.Core.List.{List}
+use mathlib.Core.Bool.{true, _&&_}
 use mathlib.Core.Logic.{_⊎_, inl, inr}
 use native.Mathlib.Omega.{arith}
-use lib.ListN.{length, getD, replicate}
-use lib.Dec.{eqb, leb, ltb}
-use Rattle.std.specs.declared.result.Result.the-variants.{Ok, Err}
-use Rattle.std.proofs.shelf.Tests.{and-parts, leb-true, ne-eqb, eq-eqb, cond-true, cond-false, cases-order, cases-lt}
-use Rattle.base.specs.declared.owner.Kind.{Kind}
+use lib.Dec.{eqb, leb}
+use Rattle.std.proofs.shelf.Tests.{and-parts, leb-true, ne-eqb, eq-eqb, cond-true, cond-false, cases-lt}
 use Rattle.base.specs.declared.owner.Handle.{Handle}
 use Rattle.device.specs.declared.put.Put.{Put}
-use Rattle.device.specs.Model.{Block, put}
+use Rattle.device.specs.Model.{put}
 use Rattle.device.specs.Effect.{puts}
-use Rattle.layout.specs.Format.{Name, Geometry, Slot, blank, in-limits, cell, encode}
-use Rattle.rule.specs.Agree.{Shown, View, seen, count, number, from}
-use Rattle.rule.specs.Card.{Card, Plan}
-use Rattle.rule.specs.Changing.{store, blanks, format}
+use Rattle.layout.specs.Format.{Geometry, Slot, blank, in-limits, cell, encode}
+use Rattle.rule.specs.Agree.{Shown, seen, count, number, from}
+use Rattle.rule.specs.Changing.{blanks, format}
 use Rattle.rule.specs.Meaning.{Fits}
-use Rattle.rule.specs.Calls.{Apart, Once, Creates, InPlace, OnNewLeaf, Writes, Replaces, Appends, Shortens, Removes, Create-once, Write-once, Shorten-once, Remove-once, Format-once, Formats, Format-means}
+use Rattle.rule.specs.Calls.{Apart, Once, InPlace, OnNewLeaf, Replaces, Appends, Create-once, Write-once, Shorten-once, Remove-once, Format-once, Formats, Format-means}
 use Rattle.rule.proofs.Formed.{slot-formed, body-at}
 use Rattle.rule.proofs.Plans.{bind-ok, check-ok, ok-same}
 

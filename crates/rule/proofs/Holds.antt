@@ -1,5 +1,5 @@
 -- The cases compute.
-use mathlib.Core.Path.{_≡_, refl}
+use mathlib.Core.Path.{refl}
 use Rattle.layout.specs.Format.{parse, encode, entry-of}
 use Rattle.rule.specs.Check.{_>>=_, check, demand}
 use Rattle.rule.specs.Card.{opening, survey-step, surveyed}
