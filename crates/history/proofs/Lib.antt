@@ -12,3 +12,4 @@ pub mod Keep
 pub mod Paths
 pub mod Settled
 pub mod Example
+pub mod Counts
