@@ -21,10 +21,12 @@ use Rattle.layout.specs.Identities.{told}
 use Rattle.rule.specs.Agree.{View, seen, count, number, root}
 use Rattle.rule.specs.Check.{Answer}
 use Rattle.rule.specs.Card.{Ready}
-use Rattle.rule.specs.Reading.{components, all-named}
+use Rattle.rule.specs.Reading.{components, Status}
 use Rattle.rule.specs.Changing.{synced}
 use Rattle.rule.specs.Meaning.{Fits, Reached, the-root}
+use Rattle.rule.specs.Readings.{Leads}
 use Rattle.rule.proofs.Plans.{clash-ok}
+use Rattle.rule.proofs.Answered.{path-means, status-means}
 use Rattle.history.specs.Events.{State, Event, sync, By-device, Syncs}
 use Rattle.history.specs.History.{Moment, present, History, Deed, nothing, gives, maker}
 use Rattle.history.specs.Laws.{after, Touches, Untouched, FileAt, SameFile, Settled-files-stay}
@@ -33,9 +35,9 @@ use Rattle.history.proofs.Stands.{May, view, may-shown, may-fewer, told-own, I
 use Rattle.history.proofs.Sorts.{Allowed}
 use Rattle.history.proofs.Moves.{Quiet, Busy, moves}
 use Rattle.history.proofs.Invariant.{joins, history-inv}
-use Rattle.history.proofs.Trail.{leaf-in, Link, FileKept, LeafKept, Trail, Way, trail-way, trail-file, trail-reached, file-fits, settled-trail, settled-leaf}
+use Rattle.history.proofs.Trail.{leaf-in, Link, FileKept, LeafKept, Trail, trail-way, trail-file, trail-reached, file-fits, settled-trail, settled-leaf}
 use Rattle.history.proofs.Keep.{trail-kept, leaf-kept}
-use Rattle.history.proofs.Paths.{path-ok, path-answers, status-ok, read-same}
+use Rattle.history.proofs.Leaves.{read-same}
 
 -- the path and the leaves, from one model to the next
 abbrev Stay : Geometry → Model → Model → List Name → Handle → Slot → Type 0
@@ -106,7 +108,7 @@ sync-settles (Ok g) s t (inl w) = go (w .0) (w .1) (w .2)
     go Unsure e q = clash-ok (sym e)
 
 module _ (g : Geometry) (s t : State) (older : List Moment) (ns : List Name) (h : Handle) (r : Slot)
-    (way : Way g (view g (t .device)) root ns h) (fits : Fits g (view g (t .device)) h r) (kind : r .kind ≡ File) where
+    (way : Leads g (view g (t .device)) root ns h) (fits : Fits g (view g (t .device)) h r) (kind : r .kind ≡ File) where
   abbrev base : List Moment
   base = after (sync (Ok tt)) t older
 
@@ -131,15 +133,15 @@ module _ (g : Geometry) (s t : State) (older : List Moment) (ns : List Name) (h 
 
 pub files-stay : Settled-files-stay
 files-stay g s t older newer p h hist at un =
-    let a = path-ok p g (t .device .shown) h (at .path) in
-    let f = status-ok h g (t .device .shown) (at .status) (at .told) in
+    let a = path-means p g (t .device .shown) h .0 (at .path) in
+    let f = status-means h g (t .device .shown) (at .status) .0 (at .told) in
     let r = f .0 in
-    let kind : r .kind ≡ File = f .2 ∙ at .kind in
+    let kind : r .kind ≡ File = ap (λ (x : Status). x .kind) (sym (f .2)) ∙ at .kind in
     let b = later g s t older (components p) h r (a .1) (f .1) kind newer hist un in
     let n = present s (newer ++ after (sync (Ok tt)) t older) .device in
     let fits = file-fits g n h r (trail-file g n root (components p) h r (b .0)) in
     ( record {
-        path = path-answers p g (n .shown) h (a .0) (trail-way g n root (components p) h r (b .0));
+        path = path-means p g (n .shown) h .1 (a .0, trail-way g n root (components p) h r (b .0));
         leaves = λ k room. read-same h k room g (n .shown) (t .device .shown) r fits (f .1) kind (λ low. b .1 k low (view g n (number r k)) (may-shown g n (number r k) (view g n (number r k)) refl));
       }
     , b .2 )

@@ -16,6 +16,7 @@ use Rattle.device.specs.Model.{Model, OnlyShown}
 use Rattle.layout.specs.Format.{Name, Cell, Geometry, back, Slot, Content, blank, cover, slotted, file-body, folder-body, ill-formed, entry, entry-of}
 use Rattle.rule.specs.Agree.{View, count, number, same-back}
 use Rattle.rule.specs.Meaning.{Fits, Good, Sound, Reached, the-root, under, Before, Finds, Held}
+use Rattle.rule.specs.Readings.{Leads}
 use Rattle.rule.proofs.Steps.{back-true, back-same}
 use Rattle.history.proofs.Parsed.{slotted-same, slot-parsed, body-at, file-back, apart}
 use Rattle.history.proofs.Stands.{May, view, may-shown, only-may}
@@ -84,11 +85,6 @@ abbrev pub Trail : Geometry → Model → Handle → List Name → Handle → Sl
 Trail g m f [] h r = (f ≡ h) × FileKept g m h r
 Trail g m f (n ∷ ns) h r = (c : Handle) × Link g m f n c × Trail g m c ns h r
 
--- the names lead from the folder f to h
-abbrev pub Way : Geometry → View → Handle → List Name → Handle → Type 0
-Way g v f [] h = f ≡ h
-Way g v f (n ∷ ns) h = (c : Handle) × Finds g v f n c × Way g v c ns h
-
 module _ (g : Geometry) (m : Model) where
   abbrev v : View
   v = view g m
@@ -146,7 +142,7 @@ module _ (g : Geometry) (m : Model) where
   pub file-fits : (h : Handle) (r : Slot) → FileKept g m h r → Fits g v h r
   file-fits h r k = record { inside = k .inside; holds = k .slots (v (suc (h .slot .0))) (may-shown g m (suc (h .slot .0)) _ refl); same = k .same }
 
-  pub trail-way : (f : Handle) (ns : List Name) (h : Handle) (r : Slot) → Trail g m f ns h r → Way g v f ns h
+  pub trail-way : (f : Handle) (ns : List Name) (h : Handle) (r : Slot) → Trail g m f ns h r → Leads g v f ns h
   trail-way f [] h r t = t .0
   trail-way f (n ∷ ns) h r t = (t .0, link-finds f n (t .0) (t .1), trail-way (t .0) ns h r (t .2))
 
@@ -199,7 +195,7 @@ module _ (g : Geometry) (m : Model) where
         low : (j q : ℕ) → Before j q (d .leaf) (d .place) → j < count r
         low j q before = let z = o .below in elim before [ inl a ↦ (omega arith) | inr a ↦ (omega arith) ]
 
-    pub settled-trail : (f : Handle) (ns : List Name) (h : Handle) (r : Slot) → Way g v f ns h → Fits g v h r → r .kind ≡ File → Trail g m f ns h r
+    pub settled-trail : (f : Handle) (ns : List Name) (h : Handle) (r : Slot) → Leads g v f ns h → Fits g v h r → r .kind ≡ File → Trail g m f ns h r
     settled-trail f [] h r p fits kind = (p, record { inside = fits .inside; slots = λ y i. only-may g m only (suc (h .slot .0)) y i ∙ fits .holds; same = fits .same; kind = kind; region = above h r fits })
     settled-trail f (n ∷ ns) h r p fits kind = (p .0, settled-link f n (p .0) (p .1), settled-trail (p .0) ns h r (p .2) fits kind)
 

@@ -1,4 +1,4 @@
--- What path, status and read answer with the geometry known, in terms of the way that the names lead.
+-- What a read answers rests on the file's slot and on what stands for the leaf.
 use Prim.Native.Nat.{ℕ, zero, suc, _≤_, _<_}
 use mathlib.Core.Path.{_≡_, refl, sym, ap, subst, _∙_}
 use mathlib.Core.List.{List, [], _∷_, _++_}
@@ -20,62 +20,10 @@ use Rattle.layout.specs.Format.{Name, Geometry, back, Slot, Content, blank, cov
 use Rattle.rule.specs.Agree.{Shown, View, seen, count, number, names, good, same-back, root}
 use Rattle.rule.specs.Check.{Answer, _>>=_, check, demand}
 use Rattle.rule.specs.Card.{block}
-use Rattle.rule.specs.Reading.{fits, reading, step, read, bytes-in, Status, status, at-component, all-named, walk, path, components}
-use Rattle.rule.specs.Meaning.{Fits, Finds}
-use Rattle.rule.proofs.Plans.{clash-ok, bind-ok, ok-same, fits-ok}
-use Rattle.history.proofs.Rules.{bind-from, step-ok, step-answers, reading-answers}
-use Rattle.history.proofs.Trail.{Way, leaf-in}
-
-at-ok : {A : Type 0} (i : ℕ) (a : Answer A) (c : A) → at-component i a ≡ Ok c → a ≡ Ok c
-unfolding at-component
-at-ok i (Ok a) c e = ap Ok (ok-same e)
-at-ok i (Err r) c e = clash-ok e
-
-at-from : {A : Type 0} (i : ℕ) (a : Answer A) (c : A) → a ≡ Ok c → at-component i a ≡ Ok c
-unfolding at-component
-at-from i a c e = ap (at-component i) e
-
-walk-ok : (g : Geometry) (v : View) (i : ℕ) (f : Handle) (ns : List Name) (h : Handle) → walk g v i f ns ≡ Ok h → Way g v f ns h
-unfolding walk
-walk-ok g v i f [] h e = ok-same e
-walk-ok g v i f (n ∷ ns) h e =
-    let a = bind-ok (at-component i (step g v f n)) (λ c. walk g v (suc i) c ns) h e in
-    (a .0, step-ok g v f n (a .0) (at-ok i (step g v f n) (a .0) (a .1)), walk-ok g v (suc i) (a .0) ns h (a .2))
-
-walk-answers : (g : Geometry) (v : View) (i : ℕ) (f : Handle) (ns : List Name) (h : Handle) → Way g v f ns h → walk g v i f ns ≡ Ok h
-unfolding walk
-walk-answers g v i f [] h w = ap Ok w
-walk-answers g v i f (n ∷ ns) h w =
-    bind-from (at-component i (step g v f n)) (λ c. walk g v (suc i) c ns) (w .0) (at-from i (step g v f n) (w .0) (step-answers g v f n (w .0) (w .1)))
-    ∙ walk-answers g v (suc i) (w .0) ns h (w .2)
-
--- a path that leads to h: its names are names, whatever the blocks show
-pub path-ok : (p : List ℕ) (g : Geometry) (shown : Shown) (h : Handle) → path p (Ok g) shown ≡ Ok h → (all-named 0 (components p) ≡ Ok tt) × Way g (seen g shown) root (components p) h
-unfolding path
-path-ok p g shown h e =
-    let a = bind-ok _ _ h e in
-    let b = bind-ok (at-component 0 (Ok g)) (λ y. walk y (seen y shown) 0 root (components p)) h (a .2) in
-    let same : g ≡ b .0 = ok-same (at-ok 0 (Ok g) (b .0) (b .1)) in
-    (a .1, walk-ok g (seen g shown) 0 root (components p) h (ap (λ (y : Geometry). walk y (seen y shown) 0 root (components p)) same ∙ b .2))
-
-pub path-answers : (p : List ℕ) (g : Geometry) (shown : Shown) (h : Handle) → all-named 0 (components p) ≡ Ok tt → Way g (seen g shown) root (components p) h → path p (Ok g) shown ≡ Ok h
-unfolding path
-path-answers p g shown h named w =
-    bind-from (all-named 0 (components p)) (λ u. at-component 0 (Ok g) >>= λ y. walk y (seen y shown) 0 root (components p)) tt named
-    ∙ bind-from (at-component 0 (Ok g)) (λ y. walk y (seen y shown) 0 root (components p)) g (at-from 0 (Ok g) g refl)
-    ∙ walk-answers g (seen g shown) 0 root (components p) h w
-
-pub status-ok : (h : Handle) (g : Geometry) (shown : Shown) (t : Status) → status h (Ok g) shown ≡ Ok t → (r : Slot) × Fits g (seen g shown) h r × (r .kind ≡ t .kind)
-unfolding status
-status-ok h g shown t e =
-    let a = bind-ok {A = Geometry} (Ok g) (λ y. fits y (seen y shown) h >>= λ r. Ok (record { kind = r .kind; count = count r; parent = r .parent })) t e in
-    let same : g ≡ a .0 = ok-same (a .1) in
-    let b = bind-ok (fits (a .0) (seen (a .0) shown) h) (λ r. Ok (record { kind = r .kind; count = count r; parent = r .parent })) t (a .2) in
-    ( b .0
-    , subst (λ (y : Geometry). Fits y (seen y shown) h (b .0)) (sym same) (fits-ok (a .0) (seen (a .0) shown) h (b .0) (b .1))
-    , ap (λ (s : Status). s .kind) (ok-same (b .2)) )
-
--- ---- read
+use Rattle.rule.specs.Reading.{reading, read, bytes-in}
+use Rattle.rule.specs.Meaning.{Fits}
+use Rattle.rule.proofs.Answered.{bind-from, reading-answers}
+use Rattle.history.proofs.Trail.{leaf-in}
 
 -- what a read answers, by the slot and what stands for the leaf
 leaf-answer : Slot → ℕ → ℕ → Option (List ℕ) → Answer (List ℕ)
