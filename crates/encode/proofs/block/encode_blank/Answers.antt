@@ -1,0 +1,11 @@
+use native.Mathlib.Omega.{arith}
+use mathlib.Core.List.{[]}
+use mathlib.Core.Path.{refl, _∙_}
+use lib.ListN.{length}
+use Rattle.layout.specs.Format.{encode}
+use Rattle.encode.proofs.Filling.{framed}
+use Rattle.encode.proofs.block.encode_blank.Needs as need
+
+pub returns : need.returns
+unfolding encode
+returns c = framed (length (c .args .out .now)) 512 _ _ [] [] (c .fill .ensures) refl (omega arith)
