@@ -17,9 +17,9 @@ cells-of-bytes (suc n) z =
     let m : 32 + 32 * n ≡ 32 * suc n = omega arith in
     ap (λ x. take 32 z ++ x) (cells-of-bytes n (drop 32 z)) ∙ sym (take-add 32 (32 * n) z) ∙ ap (λ i. take i z) m
 
-pub cells-whole : (z : List ℕ) → length z ≡ 480 → cells-bytes (cells z) ≡ z
+pub bytes-whole : (z : List ℕ) → length z ≡ 480 → cells-bytes (cells z) ≡ z
 unfolding cells
-cells-whole z len = cells-of-bytes 15 z ∙ take-all 480 z (omega arith)
+bytes-whole z len = cells-of-bytes 15 z ∙ take-all 480 z (omega arith)
 
 -- one cell written over
 patched-of : (n k : ℕ) (z e : List ℕ) → length z ≡ 32 * n → k < n → cells-bytes (set (cells-of n z) k e) ≡ take (32 * k) z ++ (e ++ drop (32 * k + 32) z)

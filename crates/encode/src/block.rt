@@ -7,6 +7,8 @@ ghost use Rattle.std.specs.Orderings.{When};
 ghost use Rattle.layout.specs.Format.{blank, cover, slotted, file-body, folder-body, encode, numbers-bytes};
 ghost use Rattle.layout.specs.Sizes.{sizes};
 ghost use Rattle.layout.specs.Head.{cells};
+ghost use Rattle.layout.specs.Laws.{ReadAs, ReadAsFolder, ChangedAt};
+ghost use mathlib.Core.Bool.{true};
 ghost use Rattle.encode.specs.Heads.{plain, slot-record, Placed};
 use crate::bytes::body_head;
 use crate::bytes::bytes16;
@@ -21,20 +23,23 @@ use base::owner::Kind;
 use layout::geometry::Geometry;
 
 pub fn encode_blank(out: &mut [u8; 512])
-    ensures { λ _. ⌜ now (out .exit) ≡ encode blank ⌝ }
+    ensures bytes { λ _. ⌜ now (out .exit) ≡ encode blank ⌝ }
+    ensures read { λ _. ⌜ ReadAs blank (now (out .exit)) ⌝ }
 {
     fill(out, &[], &[]);
 }
 
 pub fn encode_cover(out: &mut [u8; 512], g: &Geometry)
-    ensures { λ _. ⌜ now (out .exit) ≡ encode (cover (sizes (now (g .entry)))) ⌝ }
+    ensures bytes { λ _. ⌜ now (out .exit) ≡ encode (cover (sizes (now (g .entry)))) ⌝ }
+    ensures read { λ _. ⌜ ReadAs (cover (sizes (now (g .entry)))) (now (out .exit)) ⌝ }
 {
     fill(out, &cover_head(g.blocks, g.slots), &[]);
 }
 
 // False, and nothing written, where the leaf has more than 496 bytes.
 pub fn encode_file_body(out: &mut [u8; 512], back: &Back, bytes: &[u8]) -> bool
-    ensures { λ r. ⌜ When r ((length (now (bytes .entry)) ≤ 496) × (now (out .exit) ≡ encode (file-body (now (back .entry)) (now (bytes .entry))))) ((496 < length (now (bytes .entry))) × (now (out .exit) ≡ now (out .entry))) ⌝ }
+    ensures bytes { λ r. ⌜ When r ((length (now (bytes .entry)) ≤ 496) × (now (out .exit) ≡ encode (file-body (now (back .entry)) (now (bytes .entry))))) ((496 < length (now (bytes .entry))) × (now (out .exit) ≡ now (out .entry))) ⌝ }
+    ensures read { λ r. ⌜ (r ≡ true → ReadAs (file-body (now (back .entry)) (now (bytes .entry))) (now (out .exit))) ⌝ }
 {
     if bytes.len() > 496 {
         return false;
@@ -45,7 +50,8 @@ pub fn encode_file_body(out: &mut [u8; 512], back: &Back, bytes: &[u8]) -> bool
 
 // False, and nothing written, where the leaf has other than 480 bytes.
 pub fn encode_folder_body(out: &mut [u8; 512], back: &Back, payload: &[u8]) -> bool
-    ensures { λ r. ⌜ When r ((length (now (payload .entry)) ≡ 480) × (now (out .exit) ≡ encode (folder-body (now (back .entry)) (cells (now (payload .entry)))))) ((length (now (payload .entry)) ≡ 480 → ⊥) × (now (out .exit) ≡ now (out .entry))) ⌝ }
+    ensures bytes { λ r. ⌜ When r ((length (now (payload .entry)) ≡ 480) × (now (out .exit) ≡ encode (folder-body (now (back .entry)) (cells (now (payload .entry)))))) ((length (now (payload .entry)) ≡ 480 → ⊥) × (now (out .exit) ≡ now (out .entry))) ⌝ }
+    ensures read { λ r. ⌜ (r ≡ true → ReadAsFolder (now (back .entry)) (cells (now (payload .entry))) (now (out .exit))) ⌝ }
 {
     if payload.len() != 480 {
         return false;
@@ -62,7 +68,8 @@ pub fn encode_folder_change(
     place: usize,
     cell: &[u8; 32],
 ) -> bool
-    ensures { λ r. ⌜ When r (Placed (now (payload .entry)) place × (now (out .exit) ≡ encode (folder-body (now (back .entry)) (set (cells (now (payload .entry))) place (now (cell .entry)))))) ((Placed (now (payload .entry)) place → ⊥) × (now (out .exit) ≡ now (out .entry))) ⌝ }
+    ensures bytes { λ r. ⌜ When r (Placed (now (payload .entry)) place × (now (out .exit) ≡ encode (folder-body (now (back .entry)) (set (cells (now (payload .entry))) place (now (cell .entry)))))) ((Placed (now (payload .entry)) place → ⊥) × (now (out .exit) ≡ now (out .entry))) ⌝ }
+    ensures read { λ r. ⌜ (r ≡ true → ReadAsFolder (now (back .entry)) (set (cells (now (payload .entry))) place (now (cell .entry))) (now (out .exit)) × ChangedAt place (now (cell .entry)) (cells (now (payload .entry))) (set (cells (now (payload .entry))) place (now (cell .entry)))) ⌝ }
 {
     if payload.len() != 480 || place >= 15 {
         return false;
@@ -92,7 +99,8 @@ pub fn encode_slot(
     parent: &Handle,
     numbers: &[BlockNo],
 ) -> bool
-    ensures { λ r. ⌜ When r ((length (now (numbers .entry)) ≤ 64) × (now (out .exit) ≡ encode (slotted (slot-record kind (identity .0) (now (parent .entry)) (plain (now (numbers .entry))))))) ((64 < length (now (numbers .entry))) × (now (out .exit) ≡ now (out .entry))) ⌝ }
+    ensures bytes { λ r. ⌜ When r ((length (now (numbers .entry)) ≤ 64) × (now (out .exit) ≡ encode (slotted (slot-record kind (identity .0) (now (parent .entry)) (plain (now (numbers .entry))))))) ((64 < length (now (numbers .entry))) × (now (out .exit) ≡ now (out .entry))) ⌝ }
+    ensures read { λ r. ⌜ (r ≡ true → ReadAs (slotted (slot-record kind (identity .0) (now (parent .entry)) (plain (now (numbers .entry))))) (now (out .exit))) ⌝ }
 {
     if numbers.len() > 64 {
         return false;

@@ -8,7 +8,7 @@ use native.Mathlib.Nat.{div-div-eq-div-mul}
 use native.Mathlib.Omega.{arith}
 use lib.Dec.{eqb, leb, ltb}
 use lib.ListN.{length, getD, set, take, drop, replicate}
-use Rattle.std.proofs.shelf.Lists.{take-at, drop-at, getD-set-same, getD-set-other, length-set}
+use Rattle.std.proofs.shelf.Lists.{take-at, drop-at, getD-set-same, getD-set-other, length-set, length-drop, length-take-le}
 use Rattle.std.proofs.shelf.Tests.{and-parts, and-from, eqb-true, eq-eqb, le-leb, lt-ltb, leb-true, ltb-true}
 use Rattle.std.proofs.shelf.Ways.{tells}
 use Rattle.base.specs.declared.owner.Kind.{Kind}
@@ -20,7 +20,7 @@ use Rattle.layout.specs.Head.{cells, slot-head-at, body-head-at, slot-by, file
 use Rattle.layout.specs.declared.block.SlotHead.{SlotHead}
 use Rattle.layout.specs.declared.block.BodyHead.{BodyHead}
 use Rattle.layout.proofs.Parsing.{slot-parts, folder-parts}
-use Rattle.layout.specs.Laws.{IdentityFits, SlotFits, BackFits, ChildFits, whole-cells, Writable, ReadAs, ReadAsEntry, ChangedAt}
+use Rattle.layout.specs.Laws.{IdentityFits, SlotFits, BackFits, ChildFits, whole-cells, Writable, ReadAs, ReadAsFolder, ReadAsEntry, ChangedAt}
 
 back16 : (n : ℕ) → n < 65536 → n % 256 + 256 * (n / 256 % 256) ≡ n
 back16 n h = omega arith
@@ -175,8 +175,32 @@ module _ (g : Geometry) (lim : in-limits (g .blocks) (g .slots) ≡ true) where
 pub read-as : (c : Content) → ReadAs c (encode c)
 read-as c g b lim w = read-back g lim c b w
 
+pub read-from : (c : Content) (z : List ℕ) → z ≡ encode c → ReadAs c z
+read-from c z e g b lim w = ap (parse g b) e ∙ read-as c g b lim w
+
+pub folder-read-from : (k : Back) (es : List Cell) (z : List ℕ) → length es ≡ 15 → whole-cells es ≡ true → z ≡ encode (folder-body k es) → ReadAsFolder k es z
+folder-read-from k es z len whole e g b lim r w = read-from (folder-body k es) z e g b lim (r, w, len, whole)
+
 pub read-as-entry : (n : Name) (c : Handle) → good-name n ≡ true → ReadAsEntry n c (cell n c)
 read-as-entry n c good g lim w = entry-back g lim n c good w
 
 pub changed-at : (k : ℕ) (e : Cell) (xs : List Cell) → k < length xs → ChangedAt k e xs (set xs k e)
 changed-at k e xs lt = record { there = getD-set-same xs k e [] lt; elsewhere = λ j ne. getD-set-other xs k j e [] ne }
+
+-- the cells of a folder's leaf are whole, and stay so
+whole-of : (n : ℕ) (z : List ℕ) → 32 * n ≤ length z → whole-cells (cells-of n z) ≡ true
+whole-of zero z h = refl
+whole-of (suc n) z h =
+    and-from (eqb (length (take 32 z)) 32) (whole-cells (cells-of n (drop 32 z))) (eq-eqb (length (take 32 z)) 32 (length-take-le 32 z (omega arith)))
+    (whole-of n (drop 32 z) (simp length-drop (omega arith)))
+
+pub cells-whole : (z : List ℕ) → length z ≡ 480 → whole-cells (cells z) ≡ true
+unfolding cells
+cells-whole z len = whole-of 15 z (omega arith)
+
+pub set-whole : (es : List Cell) (k : ℕ) (e : Cell) → length e ≡ 32 → whole-cells es ≡ true → whole-cells (set es k e) ≡ true
+set-whole [] k e len h = h
+set-whole (x ∷ es) zero e len h = and-from (eqb (length e) 32) (whole-cells es) (eq-eqb (length e) 32 len) (and-parts (eqb (length x) 32) (whole-cells es) h .1)
+set-whole (x ∷ es) (suc k) e len h =
+    let both = and-parts (eqb (length x) 32) (whole-cells es) h in
+    and-from (eqb (length x) 32) (whole-cells (set es k e)) (both .0) (set-whole es k e len (both .1))

@@ -50,6 +50,11 @@ Writable g b ill-formed = ⊥
 abbrev pub ReadAs : Content → Block → Type 0
 ReadAs c z = (g : Geometry) (b : ℕ) → in-limits (g .blocks) (g .slots) ≡ true → Writable g b c → parse g b z ≡ c
 
+-- the same of a folder's body, whose cells are known to be whole
+abbrev pub ReadAsFolder : Back → List Cell → Block → Type 0
+ReadAsFolder k es z =
+    (g : Geometry) (b : ℕ) → in-limits (g .blocks) (g .slots) ≡ true → region g b ≡ body-region → BackFits g k → parse g b z ≡ folder-body k es
+
 -- the bytes e are read as an entry
 abbrev pub ReadAsEntry : Name → Handle → Cell → Type 0
 ReadAsEntry n c e = (g : Geometry) → in-limits (g .blocks) (g .slots) ≡ true → ChildFits g c → entry-of g e ≡ entry n c
