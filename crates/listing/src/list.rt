@@ -38,6 +38,7 @@ impl<'a, L: Copy> Lines<'a, L> {
     pub fn over(lines: &'a mut [L]) -> Lines<'a, L>
         ensures count { λ r. ⌜ r .count ≡ 0 ⌝ }
         ensures lines { λ r. ⌜ now (r .lines) ≡ now (lines .entry) ⌝ }
+        ensures listed { λ r. ⌜ Sofar (now (lines .entry)) [] (r .count) (now (r .lines)) ⌝ }
         ensures same { λ r. ⌜ name (r .lines) ≡ name (lines .entry) ⌝ }
     {
         Lines { lines, count: 0 }
@@ -54,6 +55,7 @@ impl<'a, L: Copy> Lines<'a, L> {
     pub fn add(&mut self, line: L)
         ensures count { λ _. ⌜ now (self .exit) .count ≡ counted (now (self .entry) .count) ⌝ }
         ensures put { λ _. ⌜ now (now (self .exit) .lines) ≡ set (now (now (self .entry) .lines)) (now (self .entry) .count) line ⌝ }
+        ensures listed { λ _. ⌜ ((before items : List L) → length items < 2 ^ 64 - 1 → Sofar before items (now (self .entry) .count) (now (now (self .entry) .lines)) → Sofar before (items ++ line ∷ []) (now (self .exit) .count) (now (now (self .exit) .lines))) ⌝ }
         ensures same { λ _. ⌜ name (now (self .exit) .lines) ≡ name (now (self .entry) .lines) ⌝ }
     {
         if self.count < self.lines.len() {
