@@ -18,6 +18,7 @@ use Rattle.device.specs.Effect.{puts, PutAt, accepted, broken, Altered}
 use Rattle.device.specs.declared.put.Put.{Put}
 use Rattle.device.specs.declared.fault.Synced.the-variants.{Settled as SettledAnswer}
 use Rattle.layout.specs.Format.{handle, parse, encode, entry-of}
+use Rattle.layout.specs.Identities.{highest-in}
 use Rattle.rule.specs.Agree.{Shown, root}
 use Rattle.rule.specs.Check.{Answer, _>>=_, check, demand}
 use Rattle.rule.specs.Card.{Card, Ready, Plan, Opened, block, lost}
@@ -264,7 +265,7 @@ unfolding s4 s3 s2 s1 s0
 power4 = accept-power plan4 s3 ∙ accept-power plan3 s2
 
 ready4 : memory (s4 .card) .ready ≡ Ok small
-unfolding s4 s3 s2 s1 s0 formatted _>>=_ check demand rule-of-reading.fits rule-of-reading.kind-is rule-of-changing.changing rule-of-reading.named parse encode entry-of rule-of-changing.create rule-of-changing.write rule-of-changing.format rule-of-card.opening rule-of-card.surveyed rule-of-changing.placed rule-of-changing.untaken rule-of-changing.replaces rule-of-changing.appends
+unfolding s4 s3 s2 s1 s0 formatted _>>=_ check demand rule-of-reading.fits rule-of-reading.kind-is rule-of-changing.changing rule-of-reading.named parse encode entry-of highest-in rule-of-changing.create rule-of-changing.write rule-of-changing.format rule-of-card.opening rule-of-card.surveyed rule-of-changing.placed rule-of-changing.untaken rule-of-changing.replaces rule-of-changing.appends
 ready4 = refl
 
 syncs-step : Syncs s4 (Ok tt) s5
@@ -312,7 +313,7 @@ run =
     , changes-step (rule-of-changing.create File root bass) s9 (memory (s9 .card)) on9)
 
 told : events moments ≡ story
-unfolding moments s12 s9 s8 s7 s6 s5 s4 s3 s2 s1 s0 formatted _>>=_ check demand parse encode entry-of rule-of-reading.fits rule-of-reading.kind-is rule-of-reading.reading rule-of-reading.named rule-of-reading.step rule-of-reading.at-component rule-of-reading.all-named rule-of-reading.walk rule-of-reading.path rule-of-reading.read rule-of-changing.changing rule-of-changing.create rule-of-changing.write rule-of-changing.format rule-of-card.opening rule-of-card.surveyed rule-of-changing.placed rule-of-changing.untaken rule-of-changing.replaces rule-of-changing.appends
+unfolding moments s12 s9 s8 s7 s6 s5 s4 s3 s2 s1 s0 formatted _>>=_ check demand parse encode entry-of highest-in rule-of-reading.fits rule-of-reading.kind-is rule-of-reading.reading rule-of-reading.named rule-of-reading.step rule-of-reading.at-component rule-of-reading.all-named rule-of-reading.walk rule-of-reading.path rule-of-reading.read rule-of-changing.changing rule-of-changing.create rule-of-changing.write rule-of-changing.format rule-of-card.opening rule-of-card.surveyed rule-of-changing.placed rule-of-changing.untaken rule-of-changing.replaces rule-of-changing.appends
 told = refl
 
 pub it-happens : It-happens

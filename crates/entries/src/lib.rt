@@ -1,0 +1,3 @@
+// The entries of a folder, and the highest identity that a block tells.
+pub mod entry;
+pub mod identity;
