@@ -1,8 +1,13 @@
-mod Steps
-mod Walks
-mod Places
-mod Means
-mod Free
-mod Plans
-mod Holds
-mod Needed
+pub mod Steps
+pub mod Walks
+pub mod Places
+pub mod Means
+pub mod Free
+pub mod Formed
+pub mod Plans
+pub mod Holds
+pub mod Needed
+pub mod Blocks
+pub mod Answered
+pub mod Lines
+pub mod Accepted

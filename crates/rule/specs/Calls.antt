@@ -1,11 +1,11 @@
 -- What an accepted call says, as relations on the blocks shown before it.
 use Prim.Native.Nat.{ℕ, suc, _+_, _≤_, _<_}
 use mathlib.Core.Path.{_≡_}
-use mathlib.Core.List.{List, [], _∷_, _++_}
-use mathlib.Core.Bool.{Bool, true, false}
+use mathlib.Core.List.{List, [], _∷_}
+use mathlib.Core.Bool.{true}
 use mathlib.Core.Logic.{_⊎_}
 use lib.ListN.{length, set, replicate}
-use Rattle.std.specs.declared.option.Option.the-variants.{Some, None}
+use Rattle.std.specs.declared.option.Option.the-variants.{Some}
 use Rattle.std.specs.declared.result.Result.the-variants.{Ok}
 use Rattle.base.specs.declared.owner.Kind.{Kind}
 use Rattle.base.specs.declared.owner.Kind.the-variants.{File, Folder}
@@ -152,6 +152,20 @@ pub record Formats (n N S : ℕ) (ws : List Put) : Type 0 where
 abbrev pub Format-means : Type 0
 Format-means = (n N S : ℕ) (ws : List Put) → format n N S ≡ Ok ws → Formats n N S ws
 
+-- ---- a call of which the relation holds is accepted, with that plan
+
+abbrev pub Write-accepted : Type 0
+Write-accepted = (h : Handle) (k : ℕ) (x : List ℕ) (c : Card) (shown : Shown) (g : Geometry) (p : Plan (Unit {0})) → c .ready ≡ Ok g → Writes g (seen g shown) c h k x p → write h k x c shown ≡ Ok p
+
+abbrev pub Shorten-accepted : Type 0
+Shorten-accepted = (h : Handle) (n : ℕ) (c : Card) (shown : Shown) (g : Geometry) (p : Plan (Unit {0})) → c .ready ≡ Ok g → Shortens g (seen g shown) c h n p → shorten h n c shown ≡ Ok p
+
+abbrev pub Create-accepted : Type 0
+Create-accepted = (d : Kind) (f : Handle) (n : Name) (c : Card) (shown : Shown) (g : Geometry) (p : Plan Handle) → c .ready ≡ Ok g → Creates g (seen g shown) c d f n p → create d f n c shown ≡ Ok p
+
+abbrev pub Remove-accepted : Type 0
+Remove-accepted = (f : Handle) (n : Name) (c : Card) (shown : Shown) (g : Geometry) (child : Handle) (p : Plan (Unit {0})) → c .ready ≡ Ok g → Removes g (seen g shown) c f n child p → remove f n c shown ≡ Ok p
+
 -- ---- each block goes at most once
 
 abbrev pub Apart : ℕ → List Put → Type 0
@@ -163,13 +177,16 @@ Once [] = Unit {0}
 Once (w ∷ ws) = Apart (w .block .0) ws × Once ws
 
 abbrev pub Create-once : Type 0
-Create-once = (d : Kind) (f : Handle) (n : Name) (c : Card) (shown : Shown) (p : Plan Handle) → create d f n c shown ≡ Ok p → Once (p .puts)
+Create-once = (g : Geometry) (shown : Shown) (c : Card) (d : Kind) (f : Handle) (n : Name) (p : Plan Handle) → Creates g (seen g shown) c d f n p → Once (p .puts)
 
 abbrev pub Write-once : Type 0
-Write-once = (h : Handle) (k : ℕ) (x : List ℕ) (c : Card) (shown : Shown) (p : Plan (Unit {0})) → write h k x c shown ≡ Ok p → Once (p .puts)
+Write-once = (g : Geometry) (shown : Shown) (c : Card) (h : Handle) (k : ℕ) (x : List ℕ) (p : Plan (Unit {0})) → Writes g (seen g shown) c h k x p → Once (p .puts)
+
+abbrev pub Shorten-once : Type 0
+Shorten-once = (g : Geometry) (shown : Shown) (c : Card) (h : Handle) (n : ℕ) (p : Plan (Unit {0})) → Shortens g (seen g shown) c h n p → Once (p .puts)
 
 abbrev pub Remove-once : Type 0
-Remove-once = (f : Handle) (n : Name) (c : Card) (shown : Shown) (p : Plan (Unit {0})) → remove f n c shown ≡ Ok p → Once (p .puts)
+Remove-once = (g : Geometry) (shown : Shown) (c : Card) (f : Handle) (n : Name) (child : Handle) (p : Plan (Unit {0})) → Removes g (seen g shown) c f n child p → Once (p .puts)
 
 abbrev pub Format-once : Type 0
 Format-once = (n N S : ℕ) (ws : List Put) → format n N S ≡ Ok ws → Once ws

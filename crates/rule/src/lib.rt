@@ -1,9 +1,10 @@
 // What every call of a card means: definitions in specs/, with worked cases and theorems on the functions below.
 // A function here computes nothing: what its contract says is proved whenever the crate is.
 ghost use Rattle.rule.specs.Meaning.{Found-is-found, Good-is-good, Reached-is-reached, Held-is-held, Free-slot-is-next, Free-body-is-next, No-free-slot, No-free-body};
+ghost use Rattle.rule.specs.Readings.{Opening-means, Steps-agree, Survey-covers, Cursors-start, Create-keeps-range, Write-keeps-range, Find-means, Path-means, Status-means, Read-means, List-means, Damage-means};
 ghost use Rattle.rule.specs.Cases.{Cases-hold};
 ghost use Rattle.rule.specs.Broken.{Fresh-identity-needed, Untaken-name-needed, Free-body-needed, Empty-folder-needed};
-ghost use Rattle.rule.specs.Calls.{Create-means, Write-means, Shorten-means, Remove-means};
+ghost use Rattle.rule.specs.Calls.{Create-means, Write-means, Shorten-means, Remove-means, Format-means, Create-accepted, Write-accepted, Shorten-accepted, Remove-accepted, Create-once, Write-once, Shorten-once, Remove-once, Format-once};
 
 // What computes is the rule as the relations have it.
 pub fn meaning_stands() -> u8
@@ -25,12 +26,58 @@ pub fn cursors_stand() -> u8
     0
 }
 
+// A card opens when its cover and root say so; its survey finds the highest identity; its cursors stay in range.
+pub fn surveys_stand() -> u8
+    ensures opening { λ _. ⌜ Opening-means ⌝ }
+    ensures steps { λ _. ⌜ Steps-agree ⌝ }
+    ensures covers { λ _. ⌜ Survey-covers ⌝ }
+    ensures start { λ _. ⌜ Cursors-start ⌝ }
+    ensures create { λ _. ⌜ Create-keeps-range ⌝ }
+    ensures write { λ _. ⌜ Write-keeps-range ⌝ }
+{
+    0
+}
+
+// A reading call is accepted exactly when the relation holds, with that answer.
+pub fn readings_stand() -> u8
+    ensures find { λ _. ⌜ Find-means ⌝ }
+    ensures path { λ _. ⌜ Path-means ⌝ }
+    ensures status { λ _. ⌜ Status-means ⌝ }
+    ensures read { λ _. ⌜ Read-means ⌝ }
+    ensures list { λ _. ⌜ List-means ⌝ }
+    ensures damage { λ _. ⌜ Damage-means ⌝ }
+{
+    0
+}
+
 // An accepted plan says what is said of the call.
 pub fn plans_stand() -> u8
     ensures creates { λ _. ⌜ Create-means ⌝ }
     ensures writes { λ _. ⌜ Write-means ⌝ }
     ensures shortens { λ _. ⌜ Shorten-means ⌝ }
     ensures removes { λ _. ⌜ Remove-means ⌝ }
+    ensures formats { λ _. ⌜ Format-means ⌝ }
+{
+    0
+}
+
+// And a call of which that can be said is accepted.
+pub fn calls_are_accepted() -> u8
+    ensures create { λ _. ⌜ Create-accepted ⌝ }
+    ensures write { λ _. ⌜ Write-accepted ⌝ }
+    ensures shorten { λ _. ⌜ Shorten-accepted ⌝ }
+    ensures remove { λ _. ⌜ Remove-accepted ⌝ }
+{
+    0
+}
+
+// No call writes a block twice.
+pub fn blocks_go_once() -> u8
+    ensures create { λ _. ⌜ Create-once ⌝ }
+    ensures write { λ _. ⌜ Write-once ⌝ }
+    ensures shorten { λ _. ⌜ Shorten-once ⌝ }
+    ensures remove { λ _. ⌜ Remove-once ⌝ }
+    ensures format { λ _. ⌜ Format-once ⌝ }
 {
     0
 }

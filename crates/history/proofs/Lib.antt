@@ -1,0 +1,14 @@
+pub mod Trips
+pub mod Parsed
+pub mod Log
+pub mod Stands
+pub mod Sorts
+pub mod Puts
+pub mod Moves
+pub mod Invariant
+pub mod Trail
+pub mod Keep
+pub mod Leaves
+pub mod Settled
+pub mod Example
+pub mod Counts
