@@ -11,3 +11,4 @@ pub mod Blocks
 pub mod Answered
 pub mod Lines
 pub mod Accepted
+pub mod Full

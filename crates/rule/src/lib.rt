@@ -4,7 +4,7 @@ ghost use Rattle.rule.specs.Meaning.{Found-is-found, Good-is-good, Reached-is-
 ghost use Rattle.rule.specs.Readings.{Opening-means, Steps-agree, Survey-covers, Cursors-start, Create-keeps-range, Write-keeps-range, Find-means, Path-means, Status-means, Read-means, List-means, Damage-means};
 ghost use Rattle.rule.specs.Cases.{Cases-hold};
 ghost use Rattle.rule.specs.Broken.{Fresh-identity-needed, Untaken-name-needed, Free-body-needed, Empty-folder-needed};
-ghost use Rattle.rule.specs.Calls.{Create-means, Write-means, Shorten-means, Remove-means, Format-means, Create-accepted, Write-accepted, Shorten-accepted, Remove-accepted, Create-once, Write-once, Shorten-once, Remove-once, Format-once};
+ghost use Rattle.rule.specs.Calls.{Create-means, Write-means, Shorten-means, Remove-means, Format-means, Create-accepted, Write-accepted, Shorten-accepted, Remove-accepted, Write-full, Create-no-body, Create-no-slot, Create-once, Write-once, Shorten-once, Remove-once, Format-once};
 
 // What computes is the rule as the relations have it.
 pub fn meaning_stands() -> u8
@@ -67,6 +67,15 @@ pub fn calls_are_accepted() -> u8
     ensures write { λ _. ⌜ Write-accepted ⌝ }
     ensures shorten { λ _. ⌜ Shorten-accepted ⌝ }
     ensures remove { λ _. ⌜ Remove-accepted ⌝ }
+{
+    0
+}
+
+// A card that has no free body or slot for a call has none.
+pub fn full_means_full() -> u8
+    ensures write { λ _. ⌜ Write-full ⌝ }
+    ensures create_body { λ _. ⌜ Create-no-body ⌝ }
+    ensures create_slot { λ _. ⌜ Create-no-slot ⌝ }
 {
     0
 }
