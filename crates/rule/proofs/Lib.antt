@@ -12,3 +12,5 @@ pub mod Answered
 pub mod Lines
 pub mod Accepted
 pub mod Full
+pub mod Moving
+pub mod WriteMoves
