@@ -5,8 +5,7 @@ use mathlib.Core.Bool.{Bool, true, false, _||_}
 use mathlib.Core.List.{List}
 use mathlib.Core.Logic.{_⊎_, inl, inr}
 use native.Mathlib.Omega.{arith}
-use lib.ListN.{length}
-use lib.Dec.{eqb, leb, ltb}
+use lib.Dec.{ltb}
 use Rattle.std.specs.declared.option.Option.{Option}
 use Rattle.std.specs.declared.option.Option.the-variants.{Some, None}
 use Rattle.std.specs.declared.result.Result.{Result}
@@ -19,13 +18,12 @@ use Rattle.base.specs.declared.owner.Handle.{Handle}
 use Rattle.base.specs.declared.refusal.Refusal.{Refusal}
 use Rattle.base.specs.declared.refusal.Refusal.the-variants.{NameTaken, NoFreeBody, NoFreeSlot}
 use Rattle.base.specs.Refusals.{number-of}
-use Rattle.device.specs.declared.put.Put.{Put}
 use Rattle.layout.specs.Format.{Name, Cell, Geometry, Slot, entry-of}
-use Rattle.rule.specs.Agree.{Shown, View, seen, same-kind, slot-at, count, number, good, Place, found, free-slot, free-body, reached}
+use Rattle.rule.specs.Agree.{Shown, View, seen, count, Place}
 use Rattle.rule.specs.Check.{Answer, _>>=_, check, demand}
-use Rattle.rule.specs.Card.{Card, Plan}
+use Rattle.rule.specs.Card.{Card}
 use Rattle.rule.specs.Reading.{fits, kind-is, named, child-of}
-use Rattle.rule.specs.Changing.{changing, untaken, open-place, placed, create, replaces, appends, below-count, write, last-identity}
+use Rattle.rule.specs.Changing.{changing, untaken, placed, create, replaces, appends, below-count, write}
 use Rattle.rule.specs.Calls.{AllHeld, AllReached, Write-full, Create-no-body, Create-no-slot}
 use Rattle.rule.proofs.Free.{no-free-slot, no-free-body}
 use Rattle.rule.proofs.Plans.{ok-same}

@@ -14,3 +14,5 @@ pub mod Accepted
 pub mod Full
 pub mod Moving
 pub mod WriteMoves
+pub mod CreateMoves
+pub mod RemoveMoves

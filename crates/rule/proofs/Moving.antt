@@ -1,5 +1,5 @@
 -- How reached and held are carried from one view of the blocks to another.
-use Prim.Native.Nat.{ℕ, zero, suc, _≤_, _<_}
+use Prim.Native.Nat.{ℕ, suc, _<_}
 use mathlib.Core.Path.{_≡_, refl, sym, ap, subst, _∙_}
 use mathlib.Core.List.{List, []}
 use mathlib.Core.Logic.{_⊎_, inl, inr}
@@ -10,8 +10,8 @@ use Rattle.base.specs.declared.owner.Kind.the-variants.{File, Folder}
 use Rattle.base.specs.declared.owner.Handle.{Handle}
 use Rattle.base.specs.declared.owner.Back.{Back}
 use Rattle.layout.specs.Format.{Name, Cell, Geometry, back, Slot, Content, slotted, file-body, folder-body, entry, entry-of}
-use Rattle.rule.specs.Agree.{Shown, View, seen, count, number, root, same-kind}
-use Rattle.rule.specs.Meaning.{Fits, Body, Good, Sound, Reached, the-root, under, Held}
+use Rattle.rule.specs.Agree.{Shown, View, seen, count, number, same-kind}
+use Rattle.rule.specs.Meaning.{Fits, Body, Sound, Reached, the-root, under, Held}
 use Rattle.rule.proofs.Steps.{clash}
 use Rattle.rule.proofs.Formed.{slot-formed, body-at}
 

@@ -1,22 +1,22 @@
 -- How reached and held move under write and shorten.
-use Prim.Native.Nat.{ℕ, zero, suc, _+_, _≤_, _<_, min}
+use Prim.Native.Nat.{ℕ, suc, _+_, _≤_, _<_}
 use mathlib.Core.Path.{_≡_, refl, sym, ap, subst, _∙_}
-use mathlib.Core.List.{List, [], _∷_, _++_}
-use mathlib.Core.Logic.{_⊎_, inl, inr, _↔_}
+use mathlib.Core.List.{List, [], _∷_}
+use mathlib.Core.Logic.{_⊎_, inl, inr}
 use native.Mathlib.Omega.{arith}
-use lib.ListN.{length, getD, take, length-append}
+use lib.ListN.{length-append}
 use Rattle.std.proofs.shelf.Tests.{cases-eq, cases-lt}
 use Rattle.std.proofs.shelf.Lists.{getD-append-left, getD-push, getD-take, length-take}
 use Rattle.base.specs.declared.owner.Kind.{Kind}
 use Rattle.base.specs.declared.owner.Kind.the-variants.{File, Folder}
 use Rattle.base.specs.declared.owner.Handle.{Handle}
 use Rattle.base.specs.declared.owner.Back.{Back}
-use Rattle.layout.specs.Format.{Cell, Geometry, back, Slot, Content, slotted, file-body, folder-body}
+use Rattle.layout.specs.Format.{Geometry, back, Slot, Content, slotted, file-body, folder-body}
 use Rattle.rule.specs.Agree.{Shown, View, seen, count, number}
 use Rattle.rule.specs.Changing.{grown, cut-to}
-use Rattle.rule.specs.Meaning.{Fits, Body, Good, Reached, Held, FreeBody}
+use Rattle.rule.specs.Meaning.{Fits, Body, Reached, Held, FreeBody}
 use Rattle.rule.specs.Calls.{Standing}
-use Rattle.rule.specs.Moves.{Replaced, Replace-moves, Appended, Append-moves, Shortened, LeafFrom, Shorten-moves}
+use Rattle.rule.specs.Moves.{Replace-moves, Appended, Append-moves, Shortened, LeafFrom, Shorten-moves}
 use Rattle.rule.proofs.Moving.{Alike, steady, unmoved, slot-is, file-back, file-not-folder, kinds-differ, body-backs, leaf-far, holds, handles-same}
 
 -- ---- a body of a file is written anew
@@ -46,7 +46,7 @@ module _ (g : Geometry) (v w : View) (m : ℕ) (b : Back) (old x : List ℕ) (fa
 pub replace-moves : Replace-moves
 replace-moves g shown w h r k old x st l was c =
     let v = seen g shown in
-    let far = leaf-far g shown (h .slot .0) r k (st .fits .holds) l in (
+    let far = leaf-far g shown (h .slot .0) r k (st .holds) l in (
       λ a. (anew-reached g w v (number r k) (back h k) x old far (c .body) was (λ i e. sym (c .rest i e)) a, anew-reached g v w (number r k) (back h k) old x far was (c .body) (c .rest) a),
       λ b. (anew-held g w v (number r k) (back h k) x old far (c .body) was (λ i e. sym (c .rest i e)) b, anew-held g v w (number r k) (back h k) old x far was (c .body) (c .rest) b),
     )
@@ -77,7 +77,7 @@ module _ (g : Geometry) (v w : View) (s : ℕ) (r q : Slot) (alike : Same-file r
 
 -- ---- append
 
-slot-not-body : {A : Type 0} {r : Slot} {c : Content} (d : Kind) (b : Back) → slotted r ≡ c → Body d b c → A
+pub slot-not-body : {A : Type 0} {r : Slot} {c : Content} (d : Kind) (b : Back) → slotted r ≡ c → Body d b c → A
 slot-not-body {A} {r} d b e (inl (x, _, p)) = not-file (e ∙ p)
   where
     not-file : slotted r ≡ file-body b x → A
@@ -87,10 +87,10 @@ slot-not-body {A} {r} d b e (inr (x, _, p)) = not-folder (e ∙ p)
     not-folder : slotted r ≡ folder-body b x → A
     not-folder e = let z : _≡_ {A = ℕ} 0 1 = cc in absurd (omega arith)
 
-grown-count : (r : Slot) (m : ℕ) → count (grown r m) ≡ count r + 1
+pub grown-count : (r : Slot) (m : ℕ) → count (grown r m) ≡ count r + 1
 grown-count r m = length-append (r .numbers) (m ∷ [])
 
-grown-below : (r : Slot) (m k : ℕ) → k < count r → number (grown r m) k ≡ number r k
+pub grown-below : (r : Slot) (m k : ℕ) → k < count r → number (grown r m) k ≡ number r k
 grown-below r m k l = getD-append-left (r .numbers) (m ∷ []) 0 k l
 
 module _ (g : Geometry) (shown : Shown) (w : View) (h : Handle) (r : Slot) (x : List ℕ) (m : ℕ)

@@ -13,7 +13,8 @@ use Rattle.base.specs.declared.owner.Kind.the-variants.{File, Folder}
 use Rattle.base.specs.declared.owner.Handle.{Handle}
 use Rattle.base.specs.declared.refusal.Refusal.the-variants.{NoFreeBody, NoFreeSlot}
 use Rattle.device.specs.declared.put.Put.{Put}
-use Rattle.device.specs.Effect.{puts}
+use Rattle.device.specs.Model.{Block}
+use Rattle.device.specs.Effect.{puts, PutAt}
 use Rattle.layout.specs.Format.{Name, Cell, Geometry, back, Slot, blank, cover, slotted, file-body, folder-body, leaf-limit, good-name, cell, blank-cell, encode}
 use Rattle.rule.specs.Agree.{Shown, View, seen, count, number, root, reached, held, free-slot, free-body}
 use Rattle.rule.specs.Card.{Card, Plan}
@@ -209,3 +210,7 @@ Remove-once = (g : Geometry) (shown : Shown) (c : Card) (f : Handle) (n : Name) 
 
 abbrev pub Format-once : Type 0
 Format-once = (n N S : ℕ) (ws : List Put) → format n N S ≡ Ok ws → Once ws
+
+-- so every block that goes shows what went, and the others what they did
+abbrev pub Puts-show : Type 0
+Puts-show = (f : Shown) (ws : List Put) → Once ws → ((b : ℕ) (z : Block) → PutAt b z ws → puts f ws b ≡ z) × ((b : ℕ) → Apart b ws → puts f ws b ≡ f b)

@@ -2,10 +2,10 @@
 // A function here computes nothing: what its contract says is proved whenever the crate is.
 ghost use Rattle.rule.specs.Meaning.{Found-is-found, Good-is-good, Reached-is-reached, Held-is-held, Free-slot-is-next, Free-body-is-next, No-free-slot, No-free-body};
 ghost use Rattle.rule.specs.Readings.{Opening-means, Steps-agree, Survey-covers, Cursors-start, Create-keeps-range, Write-keeps-range, Find-means, Path-means, Status-means, Read-means, List-means, Damage-means};
-ghost use Rattle.rule.specs.Moves.{Replace-moves, Append-moves, Shorten-moves};
+ghost use Rattle.rule.specs.Moves.{Replace-moves, Append-moves, Shorten-moves, Create-in-place-moves, Create-on-leaf-moves, Remove-moves};
 ghost use Rattle.rule.specs.Cases.{Cases-hold};
 ghost use Rattle.rule.specs.Broken.{Fresh-identity-needed, Untaken-name-needed, Free-body-needed, Empty-folder-needed};
-ghost use Rattle.rule.specs.Calls.{Create-means, Write-means, Shorten-means, Remove-means, Format-means, Create-accepted, Write-accepted, Shorten-accepted, Remove-accepted, Write-full, Create-no-body, Create-no-slot, Create-once, Write-once, Shorten-once, Remove-once, Format-once};
+ghost use Rattle.rule.specs.Calls.{Create-means, Write-means, Shorten-means, Remove-means, Format-means, Create-accepted, Write-accepted, Shorten-accepted, Remove-accepted, Write-full, Create-no-body, Create-no-slot, Create-once, Write-once, Shorten-once, Remove-once, Format-once, Puts-show};
 
 // What computes is the rule as the relations have it.
 pub fn meaning_stands() -> u8
@@ -77,6 +77,9 @@ pub fn moves_stand() -> u8
     ensures replace { λ _. ⌜ Replace-moves ⌝ }
     ensures append { λ _. ⌜ Append-moves ⌝ }
     ensures shorten { λ _. ⌜ Shorten-moves ⌝ }
+    ensures create_in_place { λ _. ⌜ Create-in-place-moves ⌝ }
+    ensures create_on_leaf { λ _. ⌜ Create-on-leaf-moves ⌝ }
+    ensures remove { λ _. ⌜ Remove-moves ⌝ }
 {
     0
 }
@@ -97,6 +100,7 @@ pub fn blocks_go_once() -> u8
     ensures shorten { λ _. ⌜ Shorten-once ⌝ }
     ensures remove { λ _. ⌜ Remove-once ⌝ }
     ensures format { λ _. ⌜ Format-once ⌝ }
+    ensures shows { λ _. ⌜ Puts-show ⌝ }
 {
     0
 }
