@@ -6,89 +6,60 @@ use layout::block::parse_cover;
 use layout::geometry::Geometry;
 use std::test::*;
 
-struct Limit {
-    blocks: u16,
-    slots: u16,
-    fits: bool,
-}
-
-fn limit(blocks: u16, slots: u16, fits: bool) -> Limit {
-    Limit {
-        blocks,
-        slots,
-        fits,
-    }
-}
-
 #[test]
 fn limits() -> Result<(), Fail> {
-    let rows = [
-        limit(4, 2, true),
-        limit(3, 2, false),
-        limit(4, 1, false),
-        limit(4096, 2, true),
-        limit(4097, 2, false),
-        limit(258, 256, true),
-        limit(257, 256, false),
-        limit(300, 257, false),
-        limit(0, 0, false),
-        limit(65535, 65535, false),
+    // Block count, slot count, and whether they are within the limits.
+    let rows: [[u16; 3]; 10] = [
+        [4, 2, 1],
+        [3, 2, 0],
+        [4, 1, 0],
+        [4096, 2, 1],
+        [4097, 2, 0],
+        [258, 256, 1],
+        [257, 256, 0],
+        [300, 257, 0],
+        [0, 0, 0],
+        [65535, 65535, 0],
     ];
     for k in 0..rows.len() {
-        check_eq(
-            Geometry::new(rows[k].blocks, rows[k].slots).is_some(),
-            rows[k].fits,
-        )?;
+        let [blocks, slots, fits] = rows[k];
+        check_eq(Geometry::new(blocks, slots).is_some(), fits == 1)?;
     }
     Ok(())
 }
 
-// One block: a sample of `kind` with a number written over it, where it lies, and the kind that it is then.
-struct Row {
-    kind: u8,
-    offset: usize,
-    value: u16,
-    at: u16,
-    is: u8,
-}
+// A row is one block: the kind of a sample, a byte and a number that is written over it there, where the block lies,
+// and the kind that it is then.
+type Row = [u16; 5];
 
-fn row(kind: u8, offset: usize, value: u16, at: u16, is: u8) -> Row {
-    Row {
-        kind,
-        offset,
-        value,
-        at,
-        is,
-    }
-}
+const ILL: u16 = 9;
 
-const ILL: u8 = 9;
-
-fn put(block: &mut [u8; 512], offset: usize, value: u16) {
+fn put(block: &mut [u8; 512], offset: u16, value: u16) {
     let [low, high] = value.to_le_bytes();
-    if offset < 511 {
-        block[offset] = low;
-        block[offset + 1] = high;
+    let at = offset as usize;
+    if at < 511 {
+        block[at] = low;
+        block[at + 1] = high;
     }
 }
 
 // A block of each kind, well formed.
-fn sample(kind: u8) -> [u8; 512] {
+fn sample(kind: u16) -> [u8; 512] {
     let mut block = [0; 512];
     if kind == 1 {
         put(&mut block, 0, 257);
         put(&mut block, 2, 8);
         put(&mut block, 4, 3);
     } else if kind < 4 {
-        put(&mut block, 0, kind as u16);
+        put(&mut block, 0, kind);
         put(&mut block, 2, 1);
         put(&mut block, 4, 2);
         put(&mut block, 8, 1);
-        for k in 0..64usize {
+        for k in 0..64u16 {
             put(&mut block, 16 + 2 * k, 5);
         }
     } else {
-        put(&mut block, 0, kind as u16);
+        put(&mut block, 0, kind);
         put(&mut block, 2, 1);
         put(&mut block, 4, 2);
         put(&mut block, 10, 480);
@@ -96,7 +67,7 @@ fn sample(kind: u8) -> [u8; 512] {
     block
 }
 
-fn kind_of(g: &Geometry, at: u16, block: &[u8; 512]) -> u8 {
+fn kind_of(g: &Geometry, at: u16, block: &[u8; 512]) -> u16 {
     match parse(g, BlockNo(at), block) {
         Block::Blank => 0,
         Block::Cover {
@@ -116,9 +87,10 @@ fn check_rows(rows: &[Row]) -> Result<(), Fail> {
         return Err(Fail::new("limits"));
     };
     for k in 0..rows.len() {
-        let mut block = sample(rows[k].kind);
-        put(&mut block, rows[k].offset, rows[k].value);
-        check_eq(kind_of(&g, rows[k].at, &block), rows[k].is)?;
+        let [kind, offset, value, at, is] = rows[k];
+        let mut block = sample(kind);
+        put(&mut block, offset, value);
+        check_eq(kind_of(&g, at, &block), is)?;
     }
     Ok(())
 }
@@ -128,26 +100,26 @@ fn check_rows(rows: &[Row]) -> Result<(), Fail> {
 fn regions() -> Result<(), Fail> {
     check_rows(
         &[
-            row(1, 300, 1, 0, 1),
-            row(1, 300, 1, 1, ILL),
-            row(1, 300, 1, 4, ILL),
-            row(2, 300, 1, 0, ILL),
-            row(2, 300, 1, 1, 2),
-            row(3, 300, 1, 3, 3),
-            row(3, 300, 1, 4, ILL),
-            row(2, 300, 1, 8, ILL),
-            row(4, 300, 1, 3, ILL),
-            row(4, 300, 1, 4, 4),
-            row(5, 300, 1, 7, 5),
-            row(5, 300, 1, 8, ILL),
-            row(4, 300, 1, 65535, ILL),
-            row(2, 0, 0, 1, 0),
-            row(4, 0, 0, 4, 0),
-            row(2, 0, 0, 0, ILL),
-            row(2, 0, 1, 1, ILL),
-            row(2, 0, 6, 1, ILL),
-            row(4, 0, 3, 4, ILL),
-            row(4, 0, 255, 4, ILL),
+            [1, 300, 1, 0, 1],
+            [1, 300, 1, 1, ILL],
+            [1, 300, 1, 4, ILL],
+            [2, 300, 1, 0, ILL],
+            [2, 300, 1, 1, 2],
+            [3, 300, 1, 3, 3],
+            [3, 300, 1, 4, ILL],
+            [2, 300, 1, 8, ILL],
+            [4, 300, 1, 3, ILL],
+            [4, 300, 1, 4, 4],
+            [5, 300, 1, 7, 5],
+            [5, 300, 1, 8, ILL],
+            [4, 300, 1, 65535, ILL],
+            [2, 0, 0, 1, 0],
+            [4, 0, 0, 4, 0],
+            [2, 0, 0, 0, ILL],
+            [2, 0, 1, 1, ILL],
+            [2, 0, 6, 1, ILL],
+            [4, 0, 3, 4, ILL],
+            [4, 0, 255, 4, ILL],
         ],
     )
 }
@@ -156,26 +128,26 @@ fn regions() -> Result<(), Fail> {
 fn slots() -> Result<(), Fail> {
     check_rows(
         &[
-            row(2, 2, 0, 1, 2),
-            row(2, 2, 64, 1, 2),
-            row(2, 2, 65, 1, ILL),
-            row(2, 2, 257, 1, ILL),
-            row(2, 4, 0, 1, ILL),
-            row(2, 4, 1, 1, 2),
-            row(2, 6, 65535, 1, 2),
-            row(2, 8, 0, 1, ILL),
-            row(2, 10, 65535, 1, 2),
-            row(2, 12, 2, 1, 2),
-            row(2, 12, 3, 1, ILL),
-            row(2, 12, 256, 1, ILL),
-            row(2, 16, 3, 1, ILL),
-            row(2, 16, 4, 1, 2),
-            row(2, 16, 7, 1, 2),
-            row(2, 16, 8, 1, ILL),
-            row(2, 18, 0, 1, 2),
-            row(2, 14, 65535, 1, 2),
-            row(2, 144, 65535, 1, 2),
-            row(2, 510, 65535, 1, 2),
+            [2, 2, 0, 1, 2],
+            [2, 2, 64, 1, 2],
+            [2, 2, 65, 1, ILL],
+            [2, 2, 257, 1, ILL],
+            [2, 4, 0, 1, ILL],
+            [2, 4, 1, 1, 2],
+            [2, 6, 65535, 1, 2],
+            [2, 8, 0, 1, ILL],
+            [2, 10, 65535, 1, 2],
+            [2, 12, 2, 1, 2],
+            [2, 12, 3, 1, ILL],
+            [2, 12, 256, 1, ILL],
+            [2, 16, 3, 1, ILL],
+            [2, 16, 4, 1, 2],
+            [2, 16, 7, 1, 2],
+            [2, 16, 8, 1, ILL],
+            [2, 18, 0, 1, 2],
+            [2, 14, 65535, 1, 2],
+            [2, 144, 65535, 1, 2],
+            [2, 510, 65535, 1, 2],
         ],
     )
 }
@@ -184,47 +156,48 @@ fn slots() -> Result<(), Fail> {
 fn bodies() -> Result<(), Fail> {
     check_rows(
         &[
-            row(4, 2, 0, 4, 4),
-            row(4, 2, 2, 4, 4),
-            row(4, 2, 3, 4, ILL),
-            row(4, 4, 0, 4, ILL),
-            row(4, 4, 1, 4, 4),
-            row(4, 6, 65535, 4, 4),
-            row(4, 8, 63, 4, 4),
-            row(4, 8, 64, 4, ILL),
-            row(4, 10, 0, 4, 4),
-            row(4, 10, 496, 4, 4),
-            row(4, 10, 497, 4, ILL),
-            row(5, 10, 479, 4, ILL),
-            row(5, 10, 481, 4, ILL),
-            row(5, 8, 64, 4, ILL),
-            row(5, 12, 65535, 4, 5),
-            row(5, 16, 65535, 4, 5),
-            row(5, 510, 65535, 4, 5),
+            [4, 2, 0, 4, 4],
+            [4, 2, 2, 4, 4],
+            [4, 2, 3, 4, ILL],
+            [4, 4, 0, 4, ILL],
+            [4, 4, 1, 4, 4],
+            [4, 6, 65535, 4, 4],
+            [4, 8, 63, 4, 4],
+            [4, 8, 64, 4, ILL],
+            [4, 10, 0, 4, 4],
+            [4, 10, 496, 4, 4],
+            [4, 10, 497, 4, ILL],
+            [5, 10, 479, 4, ILL],
+            [5, 10, 481, 4, ILL],
+            [5, 8, 64, 4, ILL],
+            [5, 12, 65535, 4, 5],
+            [5, 16, 65535, 4, 5],
+            [5, 510, 65535, 4, 5],
         ],
     )
 }
 
 #[test]
 fn covers() -> Result<(), Fail> {
-    let rows = [
-        row(1, 0, 257, 0, 1),
-        row(1, 0, 1, 0, ILL),
-        row(1, 0, 513, 0, ILL),
-        row(1, 2, 5, 0, 1),
-        row(1, 2, 4, 0, ILL),
-        row(1, 2, 4096, 0, 1),
-        row(1, 2, 4097, 0, ILL),
-        row(1, 4, 2, 0, 1),
-        row(1, 4, 1, 0, ILL),
-        row(1, 4, 6, 0, 1),
-        row(1, 4, 7, 0, ILL),
-        row(1, 6, 65535, 0, 1),
+    let rows: [Row; 12] = [
+        [1, 0, 257, 0, 1],
+        [1, 0, 1, 0, ILL],
+        [1, 0, 513, 0, ILL],
+        [1, 2, 5, 0, 1],
+        [1, 2, 4, 0, ILL],
+        [1, 2, 4096, 0, 1],
+        [1, 2, 4097, 0, ILL],
+        [1, 4, 2, 0, 1],
+        [1, 4, 1, 0, ILL],
+        [1, 4, 6, 0, 1],
+        [1, 4, 7, 0, ILL],
+        [1, 6, 65535, 0, 1],
     ];
     for k in 0..rows.len() {
+        let [_, offset, value, _, is] = rows[k];
         let mut block = sample(1);
-        put(&mut block, rows[k].offset, rows[k].value);
-        check_eq(parse_cover(&block).is_some(), rows[k].is == 1)?;
+        put(&mut block, offset, value);
+        check_eq(parse_cover(&block).is_some(), is == 1)?;
     }
     check_rows(&rows)
 }

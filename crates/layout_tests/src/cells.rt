@@ -15,26 +15,9 @@ use entries::identity::highest_told;
 use layout::geometry::Geometry;
 use std::test::*;
 
-// One cell: its length byte, child, and a byte of the name at one place; and what it is then.
-struct Row {
-    length: u8,
-    slot: u8,
-    identity: u8,
-    at: usize,
-    byte: u8,
-    is: u8,
-}
-
-fn row(length: u8, slot: u8, identity: u8, at: usize, byte: u8, is: u8) -> Row {
-    Row {
-        length,
-        slot,
-        identity,
-        at,
-        byte,
-        is,
-    }
-}
+// A row is one cell: its length byte, the low bytes of the child's slot and identity, a byte that is written over at one
+// place, and what the cell is then.
+type Row = [u8; 6];
 
 const BLANK: u8 = 0;
 
@@ -42,17 +25,12 @@ const USED: u8 = 1;
 
 const ILL: u8 = 2;
 
-fn cell(r: &Row) -> [u8; 32] {
+fn cell(row: Row) -> [u8; 32] {
+    let [length, slot, identity, at, byte, _] = row;
     let mut cell = [97; 32];
-    cell[0] = r.length;
-    cell[2] = r.slot;
-    cell[3] = 0;
-    cell[4] = r.identity;
-    cell[5] = 0;
-    cell[6] = 0;
-    cell[7] = 0;
-    if r.at < 32 {
-        cell[r.at] = r.byte;
+    cell[0..8].copy_from_slice(&[length, 0, slot, 0, identity, 0, 0, 0]);
+    if (at as usize) < 32 {
+        cell[at as usize] = byte;
     }
     cell
 }
@@ -71,28 +49,29 @@ fn entries() -> Result<(), Fail> {
     let Some(g) = Geometry::new(8, 3) else {
         return Err(Fail::new("limits"));
     };
-    let rows = [
-        row(0, 1, 1, 1, 0, ILL),
-        row(1, 1, 1, 1, 0, USED),
-        row(24, 1, 1, 1, 255, USED),
-        row(25, 1, 1, 1, 0, ILL),
-        row(255, 1, 1, 1, 0, ILL),
-        row(4, 0, 1, 1, 0, ILL),
-        row(4, 2, 1, 1, 0, USED),
-        row(4, 3, 1, 1, 0, ILL),
-        row(4, 1, 1, 3, 1, ILL),
-        row(4, 1, 0, 1, 0, ILL),
-        row(4, 1, 0, 7, 255, USED),
-        row(4, 1, 1, 8, 47, ILL),
-        row(4, 1, 1, 8, 0, ILL),
-        row(4, 1, 1, 8, 46, USED),
-        row(4, 1, 1, 11, 47, ILL),
-        row(4, 1, 1, 12, 47, USED),
-        row(24, 1, 1, 31, 0, ILL),
-        row(23, 1, 1, 31, 0, USED),
+    let rows: [Row; 18] = [
+        [0, 1, 1, 1, 0, ILL],
+        [1, 1, 1, 1, 0, USED],
+        [24, 1, 1, 1, 255, USED],
+        [25, 1, 1, 1, 0, ILL],
+        [255, 1, 1, 1, 0, ILL],
+        [4, 0, 1, 1, 0, ILL],
+        [4, 2, 1, 1, 0, USED],
+        [4, 3, 1, 1, 0, ILL],
+        [4, 1, 1, 3, 1, ILL],
+        [4, 1, 0, 1, 0, ILL],
+        [4, 1, 0, 7, 255, USED],
+        [4, 1, 1, 8, 47, ILL],
+        [4, 1, 1, 8, 0, ILL],
+        [4, 1, 1, 8, 46, USED],
+        [4, 1, 1, 11, 47, ILL],
+        [4, 1, 1, 12, 47, USED],
+        [24, 1, 1, 31, 0, ILL],
+        [23, 1, 1, 31, 0, USED],
     ];
     for k in 0..rows.len() {
-        check_eq(state(&g, &cell(&rows[k])), rows[k].is)?;
+        let row = rows[k];
+        check_eq(state(&g, &cell(row)), row[5])?;
     }
     check_eq(state(&g, &[0; 32]), BLANK)?;
     check_eq(state(&g, &[0; 31]), ILL)

