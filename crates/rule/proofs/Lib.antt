@@ -12,7 +12,3 @@ pub mod Answered
 pub mod Lines
 pub mod Accepted
 pub mod Full
-pub mod Moving
-pub mod WriteMoves
-pub mod CreateMoves
-pub mod RemoveMoves

@@ -2,7 +2,6 @@
 // A function here computes nothing: what its contract says is proved whenever the crate is.
 ghost use Rattle.rule.specs.Meaning.{Found-is-found, Good-is-good, Reached-is-reached, Held-is-held, Free-slot-is-next, Free-body-is-next, No-free-slot, No-free-body};
 ghost use Rattle.rule.specs.Readings.{Opening-means, Steps-agree, Survey-covers, Cursors-start, Create-keeps-range, Write-keeps-range, Find-means, Path-means, Status-means, Read-means, List-means, Damage-means};
-ghost use Rattle.rule.specs.Moves.{Replace-moves, Append-moves, Shorten-moves, Create-in-place-moves, Create-on-leaf-moves, Remove-moves};
 ghost use Rattle.rule.specs.Cases.{Cases-hold};
 ghost use Rattle.rule.specs.Broken.{Fresh-identity-needed, Untaken-name-needed, Free-body-needed, Empty-folder-needed};
 ghost use Rattle.rule.specs.Calls.{Create-means, Write-means, Shorten-means, Remove-means, Format-means, Create-accepted, Write-accepted, Shorten-accepted, Remove-accepted, Write-full, Create-no-body, Create-no-slot, Create-once, Write-once, Shorten-once, Remove-once, Format-once, Puts-show};
@@ -68,18 +67,6 @@ pub fn calls_are_accepted() -> u8
     ensures write { λ _. ⌜ Write-accepted ⌝ }
     ensures shorten { λ _. ⌜ Shorten-accepted ⌝ }
     ensures remove { λ _. ⌜ Remove-accepted ⌝ }
-{
-    0
-}
-
-// How reached and held move when a call's blocks are written.
-pub fn moves_stand() -> u8
-    ensures replace { λ _. ⌜ Replace-moves ⌝ }
-    ensures append { λ _. ⌜ Append-moves ⌝ }
-    ensures shorten { λ _. ⌜ Shorten-moves ⌝ }
-    ensures create_in_place { λ _. ⌜ Create-in-place-moves ⌝ }
-    ensures create_on_leaf { λ _. ⌜ Create-on-leaf-moves ⌝ }
-    ensures remove { λ _. ⌜ Remove-moves ⌝ }
 {
     0
 }
