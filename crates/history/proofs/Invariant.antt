@@ -16,7 +16,7 @@ use Rattle.base.specs.declared.refusal.Refusal.{Refusal}
 use Rattle.base.specs.declared.refusal.PathRefusal.{PathRefusal}
 use Rattle.device.specs.Model.{Model, Block, Stands, OnlyShown}
 use Rattle.device.specs.Effect.{PutAt, puts}
-use Rattle.layout.specs.Format.{Name, Cell, Geometry, back, Slot, Content, blank, cover, slotted, file-body, folder-body, ill-formed, cover-of, in-limits, parse, encode}
+use Rattle.layout.specs.Format.{Name, Cell, Geometry, back, Slot, Content, blank, cover, slotted, file-body, folder-body, ill-formed, cover-of, in-limits, region, slot-region, body-region, parse, encode}
 use Rattle.layout.specs.Identities.{told}
 use Rattle.rule.specs.Agree.{Shown, View, seen, number, root}
 use Rattle.rule.specs.Card.{Card, Ready}
@@ -31,7 +31,9 @@ use Rattle.rule.proofs.Answered.{step-ok, find-means, read-means}
 use Rattle.history.specs.Events.{Phase, closed, opened, surveyed, State, Event, Has, Reads, find, path, read}
 use Rattle.history.specs.History.{Formatted, Moment, present, History, Deed, nothing, gives}
 use Rattle.history.specs.Laws.{Written, Made, OnTheWay, Reads-what-was-written, Finds-what-was-made, Paths-lead-to-what-was-made}
-use Rattle.history.proofs.Trips.{slot-trip, blank-trip, cover-trip, parse-cover, parse-beyond, slot-whole, blank-whole, cover-whole}
+use Rattle.layout.specs.Laws.{SlotFits}
+use Rattle.layout.proofs.Back.{read-as}
+use Rattle.history.proofs.Written.{slot-lies, body-lies, parse-cover, parse-beyond, slot-whole, blank-whole, cover-whole}
 use Rattle.history.proofs.Parsed.{apart, slotted-same}
 use Rattle.history.proofs.Log.{did, Wrote, MadeIn, wrote-earlier, made-earlier}
 use Rattle.history.proofs.Stands.{May, view, may-shown, only-may, may-fewer, told-own, Logged, logged-more, Carded, Limits, Inv}
@@ -116,14 +118,17 @@ module _ (g : Geometry) (s : State) (f : Formatted g s) where
   fm : Formats (f .before .count) (g .blocks) (g .slots) (f .puts)
   fm = format-means (f .before .count) (g .blocks) (g .slots) (f .puts) (f .plan)
 
+  within : in-limits (g .blocks) (g .slots) ≡ true
+  within = and-from _ _ (le-leb 2 (g .slots) (fm .slots .0)) (and-from _ _ (le-leb (g .slots) 256 (fm .slots .1)) (and-from _ _ (le-leb _ (g .blocks) (fm .blocks .0)) (le-leb (g .blocks) 4096 (fm .blocks .1))))
+
   limits : Limits g
-  limits = record { low = fm .slots .0; thin = fm .slots .1; bodies = (let e = fm .blocks .0 in omega arith); small = fm .blocks .1 }
+  limits = record { low = fm .slots .0; thin = fm .slots .1; bodies = (let e = fm .blocks .0 in omega arith); small = fm .blocks .1; within = within }
+
+  cover-held : s .device .shown 0 ≡ encode (cover g) → view g (s .device) 0 ≡ cover g
+  cover-held e = ap (parse g 0) e ∙ read-as (cover g) g 0 within (refl, within)
 
   shows : (b : ℕ) → s .device .shown b ≡ puts (f .before .shown) (f .puts) b
   shows b = ap (λ (h : ℕ → Block). h b) (f .settled .stayed .kept .shown ∙ f .altered .shows)
-
-  within : in-limits (g .blocks) (g .slots) ≡ true
-  within = and-from _ _ (le-leb 2 (g .slots) (fm .slots .0)) (and-from _ _ (le-leb (g .slots) 256 (fm .slots .1)) (and-from _ _ (le-leb _ (g .blocks) (fm .blocks .0)) (le-leb (g .blocks) 4096 (fm .blocks .1))))
 
   abbrev top : Slot
   top = new-slot Folder root 1
@@ -131,6 +136,9 @@ module _ (g : Geometry) (s : State) (f : Formatted g s) where
   blank-bytes : (b : ℕ) → 1 < b → b < g .blocks → s .device .shown b ≡ encode blank
   unfolding encode
   blank-bytes b up low = shows b ∙ fm .zeros (f .before .shown) b up low
+
+  blank-lies : (b : ℕ) → 0 < b → b < g .blocks → (region g b ≡ slot-region) ⊎ (region g b ≡ body-region)
+  blank-lies b up low = elim (cases-lt (g .slots) b) [ inl far ↦ inr (body-lies g b far low) | inr near ↦ inl (slot-lies g b up near) ]
 
   -- what each block holds
   pub record Plain (b : ℕ) (y : Content) : Type 0 where
@@ -140,16 +148,16 @@ module _ (g : Geometry) (s : State) (f : Formatted g s) where
 
   holds : (b : ℕ) → Plain b (view g (s .device) b)
   holds zero =
-      let e : view g (s .device) 0 ≡ cover g = parse-cover g (s .device .shown 0) ∙ ap cover-of (shows 0 ∙ fm .cover (f .before .shown)) ∙ cover-trip g (limits .thin) (limits .small) within in
+      let e : view g (s .device) 0 ≡ cover g = cover-held (shows 0 ∙ fm .cover (f .before .shown)) in
       subst (Plain 0) (sym e) (record { root = λ q. absurd (omega arith); told = omega arith; logged = tt })
   holds (suc zero) =
       let l = limits .low in
       let e : view g (s .device) 1 ≡ slotted top = ap (parse g 1) (shows 1 ∙ fm .root (f .before .shown))
-          ∙ slot-trip g (limits .thin) (limits .small) 1 top (omega arith) (omega arith) (record { few = omega arith; own = omega arith; named = omega arith; inside = omega arith; bodies = refl }) (omega arith) (omega arith) in
+          ∙ read-as (slotted top) g 1 within (slot-lies g 1 (omega arith) (omega arith), record { few = omega arith; own = ((omega arith), (omega arith)); parent = ((omega arith), (omega arith)); parent-slot = omega arith; bodies = refl }) in
       subst (Plain 1) (sym e) (record { root = λ q. refl; told = omega arith; logged = tt })
   holds (suc (suc b)) = elim (cases-lt (suc (suc b)) (g .blocks)) [
       inl low ↦
-        (let e : view g (s .device) (suc (suc b)) ≡ blank = ap (parse g (suc (suc b))) (blank-bytes (suc (suc b)) (omega arith) low) ∙ blank-trip g (limits .thin) (limits .small) (suc (suc b)) (omega arith) low in
+        (let e : view g (s .device) (suc (suc b)) ≡ blank = ap (parse g (suc (suc b))) (blank-bytes (suc (suc b)) (omega arith) low) ∙ read-as blank g (suc (suc b)) within (blank-lies (suc (suc b)) (omega arith) low) in
         subst (Plain (suc (suc b))) (sym e) (record { root = λ q. absurd (omega arith); told = omega arith; logged = tt }))
     | inr far ↦
         (let e : view g (s .device) (suc (suc b)) ≡ ill-formed = parse-beyond g (suc (suc b)) (s .device .shown (suc (suc b))) (let l = limits .bodies in omega arith) far in
@@ -163,7 +171,7 @@ module _ (g : Geometry) (s : State) (f : Formatted g s) where
   pub start-inv : Inv g s [] s
   start-inv = record {
     limits = limits;
-    cover = λ z i. ap cover-of (only 0 z i ∙ shows 0 ∙ fm .cover (f .before .shown)) ∙ cover-trip g (limits .thin) (limits .small) within;
+    cover = λ z i. ap cover-of (only 0 z i) ∙ sym (parse-cover g (s .device .shown 0)) ∙ cover-held (shows 0 ∙ fm .cover (f .before .shown));
     root = λ y i. (top, plain 1 y i .root refl, refl);
     whole = λ b z l i. ap length (only b z i) ∙ whole-at b l;
     narrow = λ b y i. (let a = plain b y i .told in omega arith);

@@ -39,7 +39,7 @@ use Rattle.rule.proofs.Answered.{find-means}
 use Rattle.history.specs.Events as events
 use Rattle.history.specs.Events.{Phase, closed, opened, surveyed, State, Event, Has, gone-at, Still, Gone, Reads, Accepted, Broken, By-plan, Changes, By-device, Syncs, Opens, By-step, Surveys, Ends, Step}
 use Rattle.history.specs.History.{Moment, present, Deed, created, wrote, shortened, removed, nothing, from-answer, planned, deed-on, deed, gives}
-use Rattle.history.proofs.Trips.{parse-cover, parse-beyond}
+use Rattle.history.proofs.Written.{parse-cover, parse-beyond}
 use Rattle.history.proofs.Log.{did, same-apart}
 use Rattle.history.proofs.Stands.{May, view, may-shown, only-may, may-fewer, Carded, Limits, Inv}
 use Rattle.history.proofs.Sorts.{Fair}

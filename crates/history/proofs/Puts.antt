@@ -7,7 +7,7 @@ use mathlib.Core.Logic.{_⊎_, inl, inr}
 use native.Mathlib.Omega.{arith}
 use lib.ListN.{length, getD, set, take, replicate, length-append, length-take, length-set}
 use lib.Dec.{eqb, leb, ltb}
-use Rattle.std.proofs.shelf.Tests.{and-from, and-parts, lt-ltb, leb-true}
+use Rattle.std.proofs.shelf.Tests.{and-from, and-parts, eq-eqb, lt-ltb, leb-true}
 use Rattle.std.proofs.shelf.Lists.{getD-append-left}
 use Rattle.base.specs.declared.owner.Kind.{Kind}
 use Rattle.base.specs.declared.owner.Kind.the-variants.{File, Folder}
@@ -15,18 +15,21 @@ use Rattle.base.specs.declared.owner.Handle.{Handle}
 use Rattle.device.specs.Model.{Model, Block, Stands}
 use Rattle.device.specs.Effect.{PutAt}
 use Rattle.device.specs.declared.put.Put.{Put}
-use Rattle.layout.specs.Format.{Name, Cell, Geometry, back, Slot, Content, blank, slotted, file-body, folder-body, Entry, entry, no-entry, body-number, all-bodies, plain-bytes, good-name, cell, blank-cell, parse, encode, entry-of}
+use Rattle.layout.specs.Format.{Name, Cell, Geometry, back, Slot, Content, blank, slotted, file-body, folder-body, Entry, entry, no-entry, body-number, all-bodies, plain-bytes, good-name, in-limits, cell, blank-cell, parse, encode, entry-of}
 use Rattle.layout.specs.Identities.{entry-told, highest-in, told}
 use Rattle.rule.specs.Agree.{View, count, number}
 use Rattle.rule.specs.Card.{Card, Plan}
-use Rattle.rule.specs.Changing.{grown, cut-to, new-slot, last-identity, store, store-slot}
+use Rattle.rule.specs.Changing.{with-numbers, grown, cut-to, new-slot, last-identity, store, store-slot}
 use Rattle.rule.specs.Meaning.{Fits, Sound, Finds, FreeBody}
 use Rattle.rule.specs.Calls.{Standing, Replaces, Appends, Writes, Shortens, OverGood, SoundAt, InPlace, OnNewLeaf, Creates, Removes}
 use Rattle.history.specs.Events.{State}
 use Rattle.history.specs.History.{Moment, Deed, created, wrote, shortened, removed, gives}
 use Rattle.history.specs.Laws.{Touches}
-use Rattle.history.proofs.Trips.{Formed, Backed, Cells, slot-trip, file-trip, folder-trip, blank-trip, entry-trip, cell-length, slot-whole, file-whole, folder-whole, blank-whole}
-use Rattle.history.proofs.Parsed.{slot-parsed, folder-parsed, body-at, set-cells, blank-cells, blank-entry, child-parsed, no-such-entry, entry-child, entry-name}
+use Rattle.layout.specs.Laws.{SlotFits, BackFits, whole-cells}
+use Rattle.layout.proofs.Back.{read-as, read-as-entry, set-whole}
+use Rattle.rule.proofs.Formed.{Slot-formed, slot-formed, body-at}
+use Rattle.history.proofs.Written.{slot-lies, body-lies, cell-length, blank-cells, slot-whole, file-whole, folder-whole, blank-whole}
+use Rattle.history.proofs.Parsed.{folder-parsed, blank-entry, child-parsed, no-such-entry, entry-child, entry-name}
 use Rattle.history.proofs.Log.{did, Wrote, MadeIn, same-apart}
 use Rattle.history.proofs.Stands.{May, view, may-shown, told-own, told-parent, told-entry, entry-tells, highest-set, highest-new, set-cases, blank-at, Logged, logged-more, Limits, Inv}
 use Rattle.history.proofs.Sorts.{Hollow, FreshSlot, SlotAgain, SlotBlanked, FreshBody, FileAgain, FolderAgain, Allowed, fresh-slot, slot-again, slot-blanked, fresh-body, file-again, folder-again, Fair}
@@ -50,8 +53,11 @@ module _ (g : Geometry) (s : State) (ms : List Moment) (u : State) (iv : Inv g s
   abbrev v : View
   v = view g (u .device)
 
-  fits-formed : (h : Handle) (r : Slot) → Fits g v h r → Formed g r
-  fits-formed h r f = slot-parsed g (h .slot .0) (u .device .shown (suc (h .slot .0))) r (f .inside) (f .holds)
+  lim : in-limits (g .blocks) (g .slots) ≡ true
+  lim = iv .limits .within
+
+  formed : (h : Handle) (r : Slot) → Fits g v h r → Slot-formed g (suc (h .slot .0)) r
+  formed h r f = slot-formed g (suc (h .slot .0)) (u .device .shown (suc (h .slot .0))) r (f .holds)
 
   slot-low : (h : Handle) (r : Slot) → Fits g v h r → told g (slotted r) ≤ high
   slot-low h r f = counted (suc (h .slot .0)) (slotted r) (may-shown g (u .device) (suc (h .slot .0)) (slotted r) (f .holds))
@@ -60,19 +66,26 @@ module _ (g : Geometry) (s : State) (ms : List Moment) (u : State) (iv : Inv g s
   handle-low h r f = let a = slot-low h r f in let b = told-own g r in let c = f .same in omega arith
 
   handle-own : (h : Handle) (r : Slot) → Fits g v h r → 1 ≤ h .identity .0
-  handle-own h r f = let a = fits-formed h r f .own in let c = f .same in omega arith
+  handle-own h r f = let a = formed h r f .identity in let c = f .same in omega arith
 
   leaf-block : (h : Handle) (r : Slot) (k : ℕ) → Fits g v h r → k < count r → (g .slots < number r k) × (number r k < g .blocks)
-  leaf-block h r k f l = body-at g (r .numbers) k (fits-formed h r f .bodies) l
+  leaf-block h r k f l = body-at g (r .numbers) k (formed h r f .numbers) l
 
-  backed : (h : Handle) (r : Slot) (k : ℕ) → Fits g v h r → k < 64 → Backed g (back h k)
-  backed h r k f l = record { inside = f .inside; own = handle-own h r f; narrow = (let a = handle-low h r f in omega arith); leaf = l }
+  backed : (h : Handle) (r : Slot) (k : ℕ) → Fits g v h r → k < 64 → BackFits g (back h k)
+  backed h r k f l = record { slot = f .inside; own = (handle-own h r f, (let a = handle-low h r f in omega arith)); leaf = l }
 
-  thin : g .slots ≤ 256
-  thin = iv .limits .thin
-
-  small : g .blocks ≤ 4096
-  small = iv .limits .small
+  -- a slot with other numbers
+  renumbered : (h : Handle) (r : Slot) (ns : List ℕ) → Fits g v h r → length ns ≤ 64 → all-bodies g ns ≡ true → SlotFits g (with-numbers r ns)
+  renumbered h r ns f few bodies =
+      let o = formed h r f in
+      let a = slot-low h r f in
+      record {
+        few = few;
+        own = (o .identity, (let c = told-own g r in omega arith));
+        parent = (o .parent-identity, (let c = told-parent g r in omega arith));
+        parent-slot = o .parent;
+        bodies = bodies;
+      }
 
   -- a put, by what it is to hold
   fair-at : (t : State) (ns : List Moment) (d : Deed) (top b i : ℕ) (z : Block) (y : Content) → b ≡ i → z ≡ encode y → parse g i (encode y) ≡ y →
@@ -87,32 +100,26 @@ module _ (g : Geometry) (s : State) (ms : List Moment) (u : State) (iv : Inv g s
       ((r .kind ≡ Folder) ⊎ ((r .kind ≡ File) × Touches d h)) → b ≡ suc (h .slot .0) → z ≡ encode (slotted (grown r i)) → Fair g v s ns d high top b z
   grown-fair ns d top b i z h r up f room free sort eb ez =
       fair-at s ns d top b (suc (h .slot .0)) z (slotted (grown r i)) eb ez
-          (slot-trip g thin small (suc (h .slot .0)) (grown r i) (omega arith) (f .inside) formed (let a = slot-low h r f in let c = told-own g r in omega arith) (let a = slot-low h r f in let c = told-parent g r in omega arith))
+          (read-as (slotted (grown r i)) g (suc (h .slot .0)) lim (slot-lies g (suc (h .slot .0)) (omega arith) (f .inside), fits))
           (slot-again (record {
             handle = h; old = r; fits = f; block = refl; slot = grown r i; content = refl; own = refl; parent = refl;
             sort = elim sort [ inl k ↦ inl (k, k, (let c = grown-count r i in omega arith), grown-below r i) | inr k ↦ inr k ];
           }))
-          (let a = slot-low h r f in omega arith) tt (slot-whole (grown r i) (formed .few))
+          (let a = slot-low h r f in omega arith) tt (slot-whole (grown r i) (fits .few))
     where
-      formed : Formed g (grown r i)
-      formed = let o = fits-formed h r f in record {
-        few = (let c = grown-count r i in omega arith); own = o .own; named = o .named; inside = o .inside;
-        bodies = bodies-push g (r .numbers) i (o .bodies) (free .above) (free .inside);
-      }
+      fits : SlotFits g (grown r i)
+      fits = renumbered h r (r .numbers ++ (i ∷ [])) f (let c = grown-count r i in omega arith) (bodies-push g (r .numbers) i (formed h r f .numbers) (free .above) (free .inside))
 
   cut-fair : (ns : List Moment) (d : Deed) (b n : ℕ) (z : Block) (h : Handle) (r : Slot) → Fits g v h r → r .kind ≡ File → Touches d h →
       b ≡ suc (h .slot .0) → z ≡ encode (slotted (cut-to r n)) → Fair g v s ns d high high b z
   cut-fair ns d b n z h r f k touched eb ez =
       fair-at s ns d high b (suc (h .slot .0)) z (slotted (cut-to r n)) eb ez
-          (slot-trip g thin small (suc (h .slot .0)) (cut-to r n) (omega arith) (f .inside) formed (let a = slot-low h r f in let c = told-own g r in omega arith) (let a = slot-low h r f in let c = told-parent g r in omega arith))
+          (read-as (slotted (cut-to r n)) g (suc (h .slot .0)) lim (slot-lies g (suc (h .slot .0)) (omega arith) (f .inside), fits))
           (slot-again (record { handle = h; old = r; fits = f; block = refl; slot = cut-to r n; content = refl; own = refl; parent = refl; sort = inr (k, touched) }))
-          (slot-low h r f) tt (slot-whole (cut-to r n) (formed .few))
+          (slot-low h r f) tt (slot-whole (cut-to r n) (fits .few))
     where
-      formed : Formed g (cut-to r n)
-      formed = let o = fits-formed h r f in record {
-        few = (let c = length-take n (r .numbers) in let w = o .few in omega arith); own = o .own; named = o .named; inside = o .inside;
-        bodies = bodies-take g n (r .numbers) (o .bodies);
-      }
+      fits : SlotFits g (cut-to r n)
+      fits = let o = formed h r f in renumbered h r (take n (r .numbers)) f (let c = length-take n (r .numbers) in let w = o .count in omega arith) (bodies-take g n (r .numbers) (o .numbers))
 
   -- ---- write
 
@@ -121,7 +128,7 @@ module _ (g : Geometry) (s : State) (ms : List Moment) (u : State) (iv : Inv g s
         Allowed g v high (wrote h k x) i (file-body (back h k) x) → b ≡ i → z ≡ encode (file-body (back h k) x) → Fair g v s (m ∷ ms) (wrote h k x) high high b z
     body-fair b i z r f l size up low al eb ez =
         fair-at s (m ∷ ms) (wrote h k x) high b i z (file-body (back h k) x) eb ez
-            (file-trip g thin small i (back h k) x up low (backed h r k f l) size) al (handle-low h r f) (inl is) (file-whole (back h k) x size)
+            (read-as (file-body (back h k) x) g i lim (body-lies g i up low, backed h r k f l, size)) al (handle-low h r f) (inl is) (file-whole (back h k) x size)
 
     pub write-fair : (c : Card) (p : Plan (Unit {0})) → Writes g v c h k x p → (b : ℕ) (z : Block) → PutAt b z (p .puts) → Fair g v s (m ∷ ms) (wrote h k x) high high b z
     write-fair c p w b z put = elim (w .blocks) [ inl q ↦ replaced q | inr q ↦ appended q ]
@@ -161,7 +168,7 @@ module _ (g : Geometry) (s : State) (ms : List Moment) (u : State) (iv : Inv g s
   folder-made : (f : Handle) (b k : ℕ) (es : List Cell) → v b ≡ folder-body (back f k) es → (q : ℕ) (n : Name) (c : Handle) → entry-of g (getD es q []) ≡ entry n c → MadeIn s ms c f n
   folder-made f b k es e = iv .logged b (folder-body (back f k) es) (may-shown g (u .device) b (folder-body (back f k) es) e)
 
-  folder-cells-of : (f : Handle) (b k : ℕ) (es : List Cell) → g .slots < b → b < g .blocks → v b ≡ folder-body (back f k) es → (length es ≡ 15) × Cells es
+  folder-cells-of : (f : Handle) (b k : ℕ) (es : List Cell) → g .slots < b → b < g .blocks → v b ≡ folder-body (back f k) es → (length es ≡ 15) × (whole-cells es ≡ true)
   folder-cells-of f b k es up low e = folder-parsed g b (u .device .shown b) (back f k) es up low (iv .whole b (u .device .shown b) low (u .device .among b)) e
 
   again-fair : (ns : List Moment) (d : Deed) (top b : ℕ) (z : Block) (f : Handle) (r : Slot) (k p : ℕ) (es : List Cell) (e : Cell) →
@@ -172,13 +179,13 @@ module _ (g : Geometry) (s : State) (ms : List Moment) (u : State) (iv : Inv g s
   again-fair ns d top b z f r k p es e up fit l there le low al lo eb ez =
       let at = leaf-block f r k fit l in
       let cs = folder-cells-of f (number r k) k es (at .0) (at .1) there in
-      let few = fits-formed f r fit .few in
+      let few = formed f r fit .count in
       let old = folder-low f (number r k) k es there in
       fair-at s ns d top b (number r k) z (folder-body (back f k) (set es p e)) eb ez
-          (folder-trip g thin small (number r k) (back f k) (set es p e) (at .0) (at .1) (backed f r k fit (omega arith)) (length-set es p e ∙ cs .0) (set-cells es p e (cs .1) le))
+          (read-as (folder-body (back f k) (set es p e)) g (number r k) lim (body-lies g (number r k) (at .0) (at .1), backed f r k fit (omega arith), length-set es p e ∙ cs .0, set-whole es p e le (cs .1)))
           al
           (let w = highest-set g es p e top low (omega arith) in let a = handle-low f r fit in omega arith)
-          lo (folder-whole (back f k) (set es p e) (length-set es p e ∙ cs .0) (set-cells es p e (cs .1) le))
+          lo (folder-whole (back f k) (set es p e) (length-set es p e ∙ cs .0) (set-whole es p e le (cs .1)))
 
   -- ---- create
 
@@ -201,15 +208,21 @@ module _ (g : Geometry) (s : State) (ms : List Moment) (u : State) (iv : Inv g s
     new-fair : (b : ℕ) (z : Block) → b ≡ suc (a .slot .0) → z ≡ encode (slotted (new-slot d f (a .identity .0))) → Fair g v s (m ∷ ms) (created d f n a) high (suc high) b z
     new-fair b z eb ez =
         fair-at s (m ∷ ms) (created d f n a) (suc high) b (suc (a .slot .0)) z (slotted (new-slot d f (a .identity .0))) eb ez
-            (slot-trip g thin small (suc (a .slot .0)) (new-slot d f (a .identity .0)) (omega arith) (cr .free .inside) formed (let o = own in let w = cr .narrow in omega arith) (let b = below in omega arith))
+            (read-as (slotted (new-slot d f (a .identity .0))) g (suc (a .slot .0)) lim (slot-lies g (suc (a .slot .0)) (omega arith) (cr .free .inside), fits))
             (fresh-slot (record { place = a .slot .0; free = cr .free; block = refl; slot = new-slot d f (a .identity .0); content = refl; own = own }))
             (let o = own in let b = below in omega arith) tt (slot-whole (new-slot d f (a .identity .0)) (omega arith))
       where
-        formed : Formed g (new-slot d f (a .identity .0))
-        formed = record { few = omega arith; own = (let o = own in omega arith); named = handle-own f (cr .slot) fit; inside = fit .inside; bodies = refl }
+        fits : SlotFits g (new-slot d f (a .identity .0))
+        fits = record {
+          few = omega arith;
+          own = ((let o = own in omega arith), (let o = own in let w = cr .narrow in omega arith));
+          parent = (handle-own f (cr .slot) fit, (let b = below in omega arith));
+          parent-slot = fit .inside;
+          bodies = refl;
+        }
 
     entry-new : entry-of g (cell n a) ≡ entry n a
-    entry-new = entry-trip g thin small n a (cr .name) (cr .child) (cr .free .inside) (let o = own in omega arith) (let o = own in let w = cr .narrow in omega arith)
+    entry-new = read-as-entry n a (cr .name) g lim (record { from-one = cr .child; slot = cr .free .inside; own = ((let o = own in omega arith), (let o = own in let w = cr .narrow in omega arith)) })
 
     name-short : length n ≤ 24
     name-short =
@@ -247,13 +260,16 @@ module _ (g : Geometry) (s : State) (ms : List Moment) (u : State) (iv : Inv g s
     on-new : (rest : List Put) (next : ℕ) → OnNewLeaf g v c f (cr .slot) (cell n a) rest next → (b : ℕ) (z : Block) → PutAt b z rest → Fair g v s (m ∷ ms) (created d f n a) high (suc high) b z
     on-new rest next q b z put = elim (subst (λ (l : List Put). PutAt b z l) (q .blocks) put) [
         inl e ↦ fair-at s (m ∷ ms) (created d f n a) (suc high) b (q .block) z new-body (e .0) (e .1)
-            (folder-trip g thin small (q .block) (back f (count (cr .slot))) (cell n a ∷ replicate 14 blank-cell) (q .free .above) (q .free .inside) (backed f (cr .slot) (count (cr .slot)) fit (q .room)) refl (cell-length n a name-short, blank-cells 14))
+            (read-as new-body g (q .block) lim (body-lies g (q .block) (q .free .above) (q .free .inside), backed f (cr .slot) (count (cr .slot)) fit (q .room), refl, new-cells))
             (fresh-body (record { free = q .free; sort = inr (f, cr .slot, cell n a ∷ replicate 14 blank-cell, fit, refl) }))
             (let w = highest-new g (cell n a) 14 (suc high) entry-low in let b = below in omega arith)
-            logged (folder-whole (back f (count (cr .slot))) (cell n a ∷ replicate 14 blank-cell) refl (cell-length n a name-short, blank-cells 14))
+            logged (folder-whole (back f (count (cr .slot))) (cell n a ∷ replicate 14 blank-cell) refl new-cells)
       | inr (inl e) ↦ grown-fair (m ∷ ms) (created d f n a) (suc high) b (q .block) z f (cr .slot) (omega arith) fit (q .room) (q .free) (inl (cr .standing .kind)) (e .0) (e .1)
       | inr (inr e) ↦ absurd e ]
       where
+        new-cells : whole-cells (cell n a ∷ replicate 14 blank-cell) ≡ true
+        new-cells = and-from _ _ (eq-eqb (length (cell n a)) 32 (cell-length n a name-short)) (blank-cells 14)
+
         new-body : Content
         new-body = folder-body (back f (count (cr .slot))) (cell n a ∷ replicate 14 blank-cell)
 
@@ -290,7 +306,7 @@ module _ (g : Geometry) (s : State) (ms : List Moment) (u : State) (iv : Inv g s
             }))
             cell-logged (e .0) (e .1)
       | inr (inl e) ↦ fair-at s (m ∷ ms) (removed h) high b (suc (h .slot .0)) z blank (e .0) (e .1)
-            (blank-trip g thin small (suc (h .slot .0)) (omega arith) (let w = fd .sound .child-fits .inside in let l = iv .limits .bodies in omega arith))
+            (read-as blank g (suc (h .slot .0)) lim (inl (slot-lies g (suc (h .slot .0)) (omega arith) (fd .sound .child-fits .inside))))
             (slot-blanked (record {
               handle = h; old = fd .sound .child; fits = fd .sound .child-fits; above = child-parsed g (getD (fd .sound .cells) (fd .place) []) n h (fd .sound .here);
               block = refl; content = refl; hollow = rm .hollow; touched = refl;

@@ -11,7 +11,7 @@ use Rattle.base.specs.declared.owner.Kind.{Kind}
 use Rattle.base.specs.declared.owner.Handle.{Handle}
 use Rattle.base.specs.declared.owner.Back.{Back}
 use Rattle.device.specs.Model.{Model, Block, Stands, OnlyShown}
-use Rattle.layout.specs.Format.{Name, Cell, Geometry, back, Slot, Content, blank, cover, slotted, file-body, folder-body, ill-formed, Entry, entry, no-entry, blank-cell, cover-of, parse, entry-of}
+use Rattle.layout.specs.Format.{Name, Cell, Geometry, back, Slot, Content, blank, cover, slotted, file-body, folder-body, ill-formed, Entry, entry, no-entry, blank-cell, in-limits, cover-of, parse, entry-of}
 use Rattle.layout.specs.Identities.{entry-told, highest-in, told}
 use Rattle.rule.specs.Agree.{View, seen}
 use Rattle.rule.specs.Card.{Card, Opened}
@@ -122,6 +122,7 @@ pub record Limits (g : Geometry) : Type 0 where
   pub thin : g .slots ≤ 256
   pub bodies : suc (suc (g .slots)) ≤ g .blocks
   pub small : g .blocks ≤ 4096
+  pub within : in-limits (g .blocks) (g .slots) ≡ true
 
 pub record Inv (g : Geometry) (s : State) (ms : List Moment) (t : State) : Type 0 where
   pub limits : Limits g

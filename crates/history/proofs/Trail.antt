@@ -18,7 +18,8 @@ use Rattle.rule.specs.Agree.{View, count, number, same-back}
 use Rattle.rule.specs.Meaning.{Fits, Good, Sound, Reached, the-root, under, Before, Finds, Held}
 use Rattle.rule.specs.Readings.{Leads}
 use Rattle.rule.proofs.Steps.{back-true, back-same}
-use Rattle.history.proofs.Parsed.{slotted-same, slot-parsed, body-at, file-back, apart}
+use Rattle.rule.proofs.Formed.{slot-formed, body-at}
+use Rattle.history.proofs.Parsed.{slotted-same}
 use Rattle.history.proofs.Stands.{May, view, may-shown, only-may}
 
 -- the bytes that a content holds for a leaf, if it names it
@@ -156,7 +157,7 @@ module _ (g : Geometry) (m : Model) where
 
   -- the numbers of a slot that is shown
   above : (h : Handle) (r : Slot) → Fits g v h r → (k : ℕ) → k < count r → g .slots < number r k
-  above h r f k l = body-at g (r .numbers) k (slot-parsed g (h .slot .0) (m .shown (suc (h .slot .0))) r (f .inside) (f .holds) .bodies) l .0
+  above h r f k l = body-at g (r .numbers) k (slot-formed g (suc (h .slot .0)) (m .shown (suc (h .slot .0))) r (f .holds) .numbers) l .0
 
   -- at a settled sync the shown blocks alone stand
   module _ (only : OnlyShown m) where
