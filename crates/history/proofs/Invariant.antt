@@ -1,43 +1,40 @@
 -- Every step keeps what holds of all that may stand; the laws on reads and finds.
-use Prim.Native.Nat.{ℕ, zero, suc, _≤_, _<_, max}
+use Prim.Native.Nat.{ℕ, zero, suc, _≤_, _<_}
 use mathlib.Core.Path.{_≡_, refl, sym, ap, subst, _∙_}
-use mathlib.Core.List.{List, [], _∷_, _++_}
-use mathlib.Core.Bool.{Bool, true, false}
+use mathlib.Core.List.{List, [], _∷_}
+use mathlib.Core.Bool.{true}
 use mathlib.Core.Logic.{_⊎_, inl, inr}
 use native.Mathlib.Omega.{arith}
-use lib.ListN.{length, getD, replicate}
-use lib.Dec.{leb}
+use lib.ListN.{length}
 use Rattle.std.specs.declared.result.Result.{Result}
 use Rattle.std.specs.declared.result.Result.the-variants.{Ok, Err}
 use Rattle.std.proofs.shelf.Tests.{cases-lt, and-from, le-leb}
 use Rattle.base.specs.declared.owner.Kind.the-variants.{Folder}
 use Rattle.base.specs.declared.owner.Handle.{Handle}
 use Rattle.base.specs.declared.refusal.Refusal.{Refusal}
-use Rattle.base.specs.declared.refusal.PathRefusal.{PathRefusal}
-use Rattle.device.specs.Model.{Model, Block, Stands, OnlyShown}
-use Rattle.device.specs.Effect.{PutAt, puts}
-use Rattle.layout.specs.Format.{Name, Cell, Geometry, back, Slot, Content, blank, cover, slotted, file-body, folder-body, ill-formed, cover-of, in-limits, region, slot-region, body-region, parse, encode}
+use Rattle.device.specs.Model.{Model, Block, OnlyShown}
+use Rattle.device.specs.Effect.{puts}
+use Rattle.layout.specs.Format.{Name, Geometry, back, Slot, Content, blank, cover, slotted, file-body, folder-body, ill-formed, cover-of, in-limits, region, slot-region, body-region, parse, encode}
 use Rattle.layout.specs.Identities.{told}
-use Rattle.rule.specs.Agree.{Shown, View, seen, number, root}
-use Rattle.rule.specs.Card.{Card, Ready}
+use Rattle.rule.specs.Agree.{Shown, View, number, root}
+use Rattle.rule.specs.Card.{Ready}
 use Rattle.rule.specs.Reading.{step, components}
 use Rattle.rule.specs.Reading as rule-of-reading
-use Rattle.rule.specs.Changing.{new-slot, last-identity}
+use Rattle.rule.specs.Changing.{new-slot}
 use Rattle.rule.specs.Meaning.{Finds, the-root}
 use Rattle.rule.specs.Calls.{Formats}
 use Rattle.rule.proofs.Plans.{clash-ok, bind-ok}
 use Rattle.rule.proofs.Blocks.{format-means}
 use Rattle.rule.proofs.Answered.{step-ok, find-means, read-means}
-use Rattle.history.specs.Events.{Phase, closed, opened, surveyed, State, Event, Has, Reads, find, path, read}
-use Rattle.history.specs.History.{Formatted, Moment, present, History, Deed, nothing, gives}
-use Rattle.history.specs.Laws.{Written, Made, OnTheWay, Reads-what-was-written, Finds-what-was-made, Paths-lead-to-what-was-made}
-use Rattle.layout.specs.Laws.{SlotFits}
+use Rattle.history.specs.Events.{Phase, closed, opened, surveyed, State, Has, find, read}
+use Rattle.history.specs.History.{Formatted, Moment, present, History, Deed, gives}
+use Rattle.history.specs.Laws.{Made, OnTheWay, Reads-what-was-written, Finds-what-was-made, Paths-lead-to-what-was-made}
 use Rattle.layout.proofs.Back.{read-as}
 use Rattle.history.proofs.Written.{slot-lies, body-lies, parse-cover, parse-beyond, slot-whole, blank-whole, cover-whole}
-use Rattle.history.proofs.Parsed.{apart, slotted-same}
-use Rattle.history.proofs.Log.{did, Wrote, MadeIn, wrote-earlier, made-earlier}
-use Rattle.history.proofs.Stands.{May, view, may-shown, only-may, may-fewer, told-own, Logged, logged-more, Carded, Limits, Inv}
-use Rattle.history.proofs.Sorts.{Allowed, fresh-slot, slot-again, slot-blanked, fresh-body, file-again, folder-again, Fair}
+use Rattle.history.proofs.Parsed.{slotted-same}
+use Rattle.history.proofs.Log.{wrote-earlier, made-earlier}
+use Rattle.history.proofs.Stands.{May, view, may-shown, only-may, may-fewer, Logged, logged-more, Carded, Limits, Inv}
+use Rattle.history.proofs.Sorts.{Allowed, fresh-slot, slot-again, slot-blanked, fresh-body, file-again, folder-again}
 use Rattle.history.proofs.Moves.{Quiet, Busy, moves}
 
 -- no call puts block 0
@@ -72,11 +69,12 @@ module _ (g : Geometry) (s : State) (ms : List Moment) (iv : Inv g s ms (present
     pub joins : (b : ℕ) (y : Content) → May g (m .state .device) b y →
         May g (u .device) b y ⊎ ((told g y ≤ w .top) × Logged g s (m ∷ ms) y × Allowed g (view g (u .device)) (w .memory .highest) (w .doing) b y)
     joins b y i = elim (w .joined b (i .0) (i .1)) [
-        inl old ↦ inl (i .0, old, i .2)
+      | inl old ↦ inl (i .0, old, i .2)
       | inr put ↦
           (let f = w .fair b (i .0) put in
           let same : f .content ≡ y = sym (f .parses) ∙ i .2 in
-          inr (subst (λ (c : Content). (told g c ≤ w .top) × Logged g s (m ∷ ms) c × Allowed g (view g (u .device)) (w .memory .highest) (w .doing) b c) same (f .counted, f .logged, f .allowed))) ]
+          inr (subst (λ (c : Content). (told g c ≤ w .top) × Logged g s (m ∷ ms) c × Allowed g (view g (u .device)) (w .memory .highest) (w .doing) b c) same (f .counted, f .logged, f .allowed)))
+    ]
 
     root-kept : (y : Content) → Allowed g (view g (u .device)) (w .memory .highest) (w .doing) 1 y → (r : Slot) × (y ≡ slotted r) × (r .identity ≡ 1)
     root-kept y (fresh-slot p) = absurd (p .free .unreached root (let e = p .block in omega arith) the-root)
@@ -93,19 +91,22 @@ module _ (g : Geometry) (s : State) (ms : List Moment) (iv : Inv g s ms (present
     busy-inv = record {
       limits = iv .limits;
       cover = λ z i. elim (w .joined 0 z i) [
-          inl old ↦ iv .cover z old
-        | inr put ↦ (let f = w .fair 0 z put in let l = allowed-above g (view g (u .device)) (w .memory .highest) (w .doing) 0 (f .content) (f .allowed) in absurd (omega arith)) ];
+        | inl old ↦ iv .cover z old
+        | inr put ↦ (let f = w .fair 0 z put in let l = allowed-above g (view g (u .device)) (w .memory .highest) (w .doing) 0 (f .content) (f .allowed) in absurd (omega arith))
+      ];
       root = λ y i. elim (joins 1 y i) [ inl old ↦ iv .root y old | inr new ↦ root-kept y (new .2) ];
       whole = λ b z l i. elim (w .joined b z i) [ inl old ↦ iv .whole b z l old | inr put ↦ w .fair b z put .whole ];
       narrow = λ b y i. elim (joins b y i) [ inl old ↦ iv .narrow b y old | inr new ↦ (let a = new .0 in let c = w .low in omega arith) ];
       logged = λ b y i. elim (joins b y i) [
-          inl old ↦ logged-more g s m ms y (λ h l. w .new h (let a = w .counted b y old in omega arith)) (iv .logged b y old)
-        | inr new ↦ new .1 ];
+        | inl old ↦ logged-more g s m ms y (λ h l. w .new h (let a = w .counted b y old in omega arith)) (iv .logged b y old)
+        | inr new ↦ new .1
+      ];
       card = subst (Carded g (m .state .device)) (sym (w .then .1)) (λ h live.
-          let k = w .then .2 h live in
-          ( k .0
-          , (let e = k .1 in let l = w .low in omega arith)
-          , λ b y i. elim (joins b y i) [ inl old ↦ (let a = w .counted b y old in let r = w .rises in let e = k .1 in omega arith) | inr new ↦ (let a = new .0 in let e = k .1 in omega arith) ] ));
+          let k = w .then .2 h live in (
+            k .0,
+            (let e = k .1 in let l = w .low in omega arith),
+            λ b y i. elim (joins b y i) [ inl old ↦ (let a = w .counted b y old in let r = w .rises in let e = k .1 in omega arith) | inr new ↦ (let a = new .0 in let e = k .1 in omega arith) ],
+          ));
     }
 
   pub move-inv : Quiet g s ms m ⊎ Busy g s ms m → Inv g s (m ∷ ms) (m .state)
@@ -153,15 +154,16 @@ module _ (g : Geometry) (s : State) (f : Formatted g s) where
   holds (suc zero) =
       let l = limits .low in
       let e : view g (s .device) 1 ≡ slotted top = ap (parse g 1) (shows 1 ∙ fm .root (f .before .shown))
-          ∙ read-as (slotted top) g 1 within (slot-lies g 1 (omega arith) (omega arith), record { few = omega arith; own = ((omega arith), (omega arith)); parent = ((omega arith), (omega arith)); parent-slot = omega arith; bodies = refl }) in
+      ∙ read-as (slotted top) g 1 within (slot-lies g 1 (omega arith) (omega arith), record { few = omega arith; own = ((omega arith), (omega arith)); parent = ((omega arith), (omega arith)); parent-slot = omega arith; bodies = refl }) in
       subst (Plain 1) (sym e) (record { root = λ q. refl; told = omega arith; logged = tt })
   holds (suc (suc b)) = elim (cases-lt (suc (suc b)) (g .blocks)) [
-      inl low ↦
+    | inl low ↦
         (let e : view g (s .device) (suc (suc b)) ≡ blank = ap (parse g (suc (suc b))) (blank-bytes (suc (suc b)) (omega arith) low) ∙ read-as blank g (suc (suc b)) within (blank-lies (suc (suc b)) (omega arith) low) in
         subst (Plain (suc (suc b))) (sym e) (record { root = λ q. absurd (omega arith); told = omega arith; logged = tt }))
     | inr far ↦
         (let e : view g (s .device) (suc (suc b)) ≡ ill-formed = parse-beyond g (suc (suc b)) (s .device .shown (suc (suc b))) (let l = limits .bodies in omega arith) far in
-        subst (Plain (suc (suc b))) (sym e) (record { root = λ q. absurd (omega arith); told = omega arith; logged = tt })) ]
+        subst (Plain (suc (suc b))) (sym e) (record { root = λ q. absurd (omega arith); told = omega arith; logged = tt }))
+  ]
 
   whole-at : (b : ℕ) → b < g .blocks → length (s .device .shown b) ≡ 512
   whole-at zero l = ap length (shows 0 ∙ fm .cover (f .before .shown)) ∙ cover-whole g
@@ -181,6 +183,7 @@ module _ (g : Geometry) (s : State) (f : Formatted g s) where
     where
       only : OnlyShown (s .device)
       only = f .settled .only
+
       plain : (b : ℕ) (y : Content) → May g (s .device) b y → Plain b y
       plain b y i = subst (Plain b) (sym (only-may g (s .device) only b y i)) (holds b)
 
@@ -217,14 +220,15 @@ bad-find f n shown c r e =
 
 pub reads-stand : Reads-what-was-written
 reads-stand g s t ms h k room x hist = elim (hist .1 .turn) [
-    inr w ↦ clash-ok (sym (w .2))
+  | inr w ↦ clash-ok (sym (w .2))
   | inl w ↦
       (let iv = history-inv g s ms (hist .0) in
       let u = present s ms in
       let e = known-ready g (u .device) (u .card) (hist .1 .ready) (λ y. rule-of-reading.read h k room y (u .device .shown)) x (bad-read h k room (u .device .shown) x) (iv .card) (hist .1 .has) (w .0) in
       let l = read-means h k room g (u .device .shown) x .0 e .1 in
       let b = number (l .slot) k in
-      wrote-earlier s ms h k x (iv .logged b (file-body (back h k) x) (may-shown g (u .device) b (file-body (back h k) x) (l .body)))) ]
+      wrote-earlier s ms h k x (iv .logged b (file-body (back h k) x) (may-shown g (u .device) b (file-body (back h k) x) (l .body))))
+]
 
 -- what find leads to at any point of a history
 found-made : (g : Geometry) (s : State) (ms : List Moment) → History g s ms → (f : Handle) (n : Name) (c : Handle) → Finds g (view g (present s ms .device)) f n c → Made s ms f n c
@@ -235,18 +239,20 @@ found-made g s ms hist f n c d =
 
 pub finds-stand : Finds-what-was-made
 finds-stand g s t ms f n c hist = elim (hist .1 .turn) [
-    inr w ↦ clash-ok (sym (w .2))
+  | inr w ↦ clash-ok (sym (w .2))
   | inl w ↦
       (let u = present s ms in
       let e = known-ready g (u .device) (u .card) (hist .1 .ready) (λ y. rule-of-reading.find f n y (u .device .shown)) c (bad-find f n (u .device .shown) c) (history-inv g s ms (hist .0) .card) (hist .1 .has) (w .0) in
-      found-made g s ms (hist .0) f n c (find-means f n g (u .device .shown) c .0 e .1)) ]
+      found-made g s ms (hist .0) f n c (find-means f n g (u .device .shown) c .0 e .1))
+]
 
 on-the-way : (g : Geometry) (s : State) (ms : List Moment) → History g s ms → (a : Handle) (ns : List Name) (f : Handle) (n : Name) (c : Handle) →
     OnTheWay g (view g (present s ms .device)) a ns f n c → Made s ms f n c
 on-the-way g s ms hist a [] f n c w = absurd w
 on-the-way g s ms hist a (x ∷ xs) f n c w = elim (w .2) [
-    inr rest ↦ on-the-way g s ms hist (w .0) xs f n c rest
-  | inl here ↦ found-made g s ms hist f n c (step-ok g (view g (present s ms .device)) f n c (ap (λ (h : Handle). step g (view g (present s ms .device)) h n) (here .0) ∙ ap (step g (view g (present s ms .device)) a) (here .1) ∙ w .1 ∙ ap Ok (sym (here .2)))) ]
+  | inr rest ↦ on-the-way g s ms hist (w .0) xs f n c rest
+  | inl here ↦ found-made g s ms hist f n c (step-ok g (view g (present s ms .device)) f n c (ap (λ (h : Handle). step g (view g (present s ms .device)) h n) (here .0) ∙ ap (step g (view g (present s ms .device)) a) (here .1) ∙ w .1 ∙ ap Ok (sym (here .2))))
+]
 
 pub paths-stand : Paths-lead-to-what-was-made
 paths-stand g s t ms p r f n c hist w = on-the-way g s ms (hist .0) root (components p) f n c w

@@ -1,47 +1,44 @@
 -- Each step of a history adds nothing to what may stand, or the blocks of an accepted or broken-off call.
-use Prim.Native.Nat.{ℕ, zero, suc, _+_, _-_, _≤_, _<_, max}
+use Prim.Native.Nat.{ℕ, zero, suc, _+_, _-_, _≤_, _<_}
 use mathlib.Core.Path.{_≡_, refl, sym, ap, subst, _∙_}
-use mathlib.Core.List.{List, [], _∷_, _++_}
+use mathlib.Core.List.{List, [], _∷_}
 use mathlib.Core.Bool.{Bool, true, false, cond}
 use mathlib.Core.Logic.{_⊎_, inl, inr}
 use native.Mathlib.Omega.{arith}
-use lib.ListN.{length}
-use lib.Dec.{ltb, leb}
-use Rattle.std.specs.declared.option.Option.{Option}
-use Rattle.std.specs.declared.option.Option.the-variants.{Some, None}
+use lib.Dec.{ltb}
+use Rattle.std.specs.declared.option.Option.the-variants.{Some}
 use Rattle.std.specs.declared.result.Result.{Result}
 use Rattle.std.specs.declared.result.Result.the-variants.{Ok, Err}
-use Rattle.std.proofs.shelf.Tests.{cases-bool, cases-lt, cases-eq, ltb-true, cond-true, cond-false}
+use Rattle.std.proofs.shelf.Tests.{cases-lt, cases-eq}
 use Rattle.base.specs.declared.number.BlockNo.{BlockNo}
 use Rattle.base.specs.declared.owner.Kind.{Kind}
 use Rattle.base.specs.declared.owner.Handle.{Handle}
 use Rattle.base.specs.declared.refusal.Refusal.{Refusal}
-use Rattle.base.specs.declared.refusal.Refusal.the-variants.{PowerGone, BadCard, SmallDevice}
-use Rattle.device.specs.Model.{Model, Block, Stands, OnlyShown, Kept, Stayed, Lost, Settled, Cut}
+use Rattle.device.specs.Model.{Model, Block, Stands, OnlyShown, Kept, Cut}
 use Rattle.device.specs.Answers.{SyncAnswer}
-use Rattle.device.specs.Effect.{Outcome, accepted, broken, Altered, PutAt}
+use Rattle.device.specs.Effect.{PutAt}
 use Rattle.device.specs.declared.put.Put.{Put}
 use Rattle.device.specs.declared.fault.Synced.{Synced}
 use Rattle.device.specs.declared.fault.Synced.the-variants.{Settled as SettledAnswer, Unsure}
-use Rattle.layout.specs.Format.{Name, Geometry, Slot, Content, cover, slotted, cover-of, parse}
+use Rattle.layout.specs.Format.{Name, Geometry, Content, cover, cover-of}
 use Rattle.layout.specs.Identities.{told}
-use Rattle.rule.specs.Agree.{Shown, View, seen, from, root}
-use Rattle.rule.specs.Check.{Answer, _>>=_, check, demand}
+use Rattle.rule.specs.Agree.{Shown, seen, from, root}
+use Rattle.rule.specs.Check.{Answer}
 use Rattle.rule.specs.Card.{Ready, Card, Plan, Opened, Surveying, lost, lost-opened, geometry-in, opening, examined, survey-step, highest-of, ended-by}
 use Rattle.rule.specs.Card as rule-of-card
 use Rattle.rule.specs.Reading as rule-of-reading
-use Rattle.rule.specs.Changing.{last-identity, keeps}
+use Rattle.rule.specs.Changing.{last-identity}
 use Rattle.rule.specs.Changing as rule-of-changing
-use Rattle.rule.specs.Meaning.{Fits, Rooted, Finds}
-use Rattle.rule.specs.Calls.{Writes, Replaces, Appends, Shortens, Creates, Removes}
+use Rattle.rule.specs.Meaning.{Rooted}
+use Rattle.rule.specs.Calls.{Writes, Shortens, Creates, Removes}
 use Rattle.rule.proofs.Plans.{clash-ok, bind-ok, demand-ok, ok-same, create-means, write-means, shorten-means, remove-means}
 use Rattle.rule.proofs.Answered.{find-means}
 use Rattle.history.specs.Events as events
-use Rattle.history.specs.Events.{Phase, closed, opened, surveyed, State, Event, Has, gone-at, Still, Gone, Reads, Accepted, Broken, By-plan, Changes, By-device, Syncs, Opens, By-step, Surveys, Ends, Step}
+use Rattle.history.specs.Events.{Phase, closed, opened, surveyed, State, Event, gone-at, Still, Gone, Reads, By-plan, Changes, By-device, Opens, By-step, Step}
 use Rattle.history.specs.History.{Moment, present, Deed, created, wrote, shortened, removed, nothing, from-answer, planned, deed-on, deed, gives}
 use Rattle.history.proofs.Written.{parse-cover, parse-beyond}
 use Rattle.history.proofs.Log.{did, same-apart}
-use Rattle.history.proofs.Stands.{May, view, may-shown, only-may, may-fewer, Carded, Limits, Inv}
+use Rattle.history.proofs.Stands.{May, view, may-shown, only-may, may-fewer, Carded, Inv}
 use Rattle.history.proofs.Sorts.{Fair}
 use Rattle.history.proofs.Puts.{write-fair, shorten-fair, create-fair, fresh, remove-fair}
 
@@ -76,9 +73,10 @@ only-kept m n k o b z i = o b z (k .stands b z i) ∙ ap (λ (f : ℕ → Block)
 
 carded-kept : (g : Geometry) (m n : Model) → Kept m n → (p : Phase) → Carded g m p → Carded g n p
 carded-kept g m n k closed c = only-kept m n k c
-carded-kept g m n k (opened o) c =
-    ( only-kept m n k (c .0)
-    , λ h e. let w = c .1 h e in (w .0, w .1, λ b up low. subst (λ (f : ℕ → Block). told g (seen g f b) ≤ o .highest) (sym (k .shown)) (w .2 b up low)) )
+carded-kept g m n k (opened o) c = (
+  only-kept m n k (c .0),
+  λ h e. let w = c .1 h e in (w .0, w .1, λ b up low. subst (λ (f : ℕ → Block). told g (seen g f b) ≤ o .highest) (sym (k .shown)) (w .2 b up low)),
+)
 carded-kept g m n k (surveyed c) d = λ h e. let w = d h e in (w .0, w .1, λ b y i. w .2 b y (may-fewer g m n (k .stands) b y i))
 
 carded-gone : (g : Geometry) (m n : Model) (b : BlockNo) → Kept m n → (p : Phase) → Carded g m p → Carded g n (gone-at b p)
@@ -115,8 +113,9 @@ module _ (g : Geometry) (s : State) (ms : List Moment) (iv : Inv g s ms (present
 
   reads-quiet : {A E : Type 0} (e : Event) (met : BlockNo → E) (rule : Ready → Shown → Result A E) (r : Result A E) → deed u e ≡ nothing → Reads met rule u r t → Quiet g s ms (after e)
   reads-quiet e met rule r i rd = elim (rd .turn) [
-      inl w ↦ still-quiet e i (w .1)
-    | inr w ↦ gone-quiet e (w .0) (u .card) i refl (w .3) ]
+    | inl w ↦ still-quiet e i (w .1)
+    | inr w ↦ gone-quiet e (w .0) (u .card) i refl (w .3)
+  ]
 
   -- ---- opening and surveying
 
@@ -136,19 +135,21 @@ module _ (g : Geometry) (s : State) (ms : List Moment) (iv : Inv g s ms (present
 
   opens-quiet : Opens u t → Quiet g s ms (after events.opening)
   opens-quiet op = elim (op .turn) [
-      inl st ↦ record {
-        idle = i;
-        fewer = st .kept .stands;
-        card = subst (Carded g (t .device)) (sym (st .card)) (only-kept (u .device) (t .device) (st .kept) only, λ h e. (opens-geometry h e, omega arith, λ b up low. absurd (omega arith)));
-      }
+    | inl st ↦ record {
+      idle = i;
+      fewer = st .kept .stands;
+      card = subst (Carded g (t .device)) (sym (st .card)) (only-kept (u .device) (t .device) (st .kept) only, λ h e. (opens-geometry h e, omega arith, λ b up low. absurd (omega arith)));
+    }
     | inr w ↦ record {
-        idle = i;
-        fewer = w .1 .lost .kept .stands;
-        card = subst (Carded g (t .device)) (sym (w .1 .card)) (only-kept (u .device) (t .device) (w .1 .lost .kept) only, λ h e. clash-ok e);
-      } ]
+      idle = i;
+      fewer = w .1 .lost .kept .stands;
+      card = subst (Carded g (t .device)) (sym (w .1 .card)) (only-kept (u .device) (t .device) (w .1 .lost .kept) only, λ h e. clash-ok e);
+    }
+  ]
     where
       i : deed u events.opening ≡ nothing
       i = idle-deed (u .card) (u .device .shown) events.opening (λ c. refl)
+
       only : OnlyShown (u .device)
       only = subst (Carded g (u .device)) (op .card) (iv .card)
 
@@ -165,12 +166,14 @@ module _ (g : Geometry) (s : State) (ms : List Moment) (iv : Inv g s ms (present
             let w = known .1 j e in
             let hg : h ≡ g = ok-same (sym live ∙ e) ∙ w .0 in
             let same : told h (seen h (u .device .shown) (o .next)) ≡ told g (view g (u .device) (o .next)) = ap (λ (x : Geometry). told x (seen x (u .device .shown) (o .next))) hg in
-            let here : told g (view g (u .device) (o .next)) ≤ last-identity = iv .narrow (o .next) (view g (u .device) (o .next)) (may-shown g (u .device) (o .next) (view g (u .device) (o .next)) refl) in
-            ( w .0
-            , (let a = w .1 in omega arith)
-            , λ b up low. elim (cases-eq b (o .next)) [
-                inl q ↦ subst (λ (i : ℕ). told g (view g (u .device) i) ≤ examined h (u .device .shown) o .highest) (sym q) (omega arith)
-              | inr q ↦ (let a = w .2 b up (omega arith) in omega arith) ] )
+            let here : told g (view g (u .device) (o .next)) ≤ last-identity = iv .narrow (o .next) (view g (u .device) (o .next)) (may-shown g (u .device) (o .next) (view g (u .device) (o .next)) refl) in (
+              w .0,
+              (let a = w .1 in omega arith),
+              λ b up low. elim (cases-eq b (o .next)) [
+                | inl q ↦ subst (λ (i : ℕ). told g (view g (u .device) i) ≤ examined h (u .device .shown) o .highest) (sym q) (omega arith)
+                | inr q ↦ (let a = w .2 b up (omega arith) in omega arith)
+              ],
+            )
 
     step-carded : (w : Surveying) → survey-step o (u .device .shown) ≡ Ok w → Kept (u .device) (t .device) → Carded g (t .device) (opened (w .card))
     unfolding survey-step
@@ -201,8 +204,9 @@ module _ (g : Geometry) (s : State) (ms : List Moment) (iv : Inv g s ms (present
     highest-covers : (i n b : ℕ) → i ≤ b → b < i + n → told g (view g (u .device) b) ≤ highest-of g (view g (u .device)) (from i n)
     highest-covers i zero b up low = absurd (omega arith)
     highest-covers i (suc n) b up low = elim (cases-eq b i) [
-        inl q ↦ subst (λ (j : ℕ). told g (view g (u .device) j) ≤ highest-of g (view g (u .device)) (from i (suc n))) (sym q) (omega arith)
-      | inr q ↦ (let a = highest-covers (suc i) n b (omega arith) (omega arith) in omega arith) ]
+      | inl q ↦ subst (λ (j : ℕ). told g (view g (u .device) j) ≤ highest-of g (view g (u .device)) (from i (suc n))) (sym q) (omega arith)
+      | inr q ↦ (let a = highest-covers (suc i) n b (omega arith) (omega arith) in omega arith)
+    ]
 
     -- the survey's end has counted every block that shows, and nothing else may stand
     all-counted : (top : ℕ) → o .highest ≤ top → ((b : ℕ) → 0 < b → b < o .next → told g (view g (u .device) b) ≤ o .highest) →
@@ -214,10 +218,12 @@ module _ (g : Geometry) (s : State) (ms : List Moment) (iv : Inv g s ms (present
             let e : view g (u .device) 0 ≡ cover g = parse-cover g (u .device .shown 0) ∙ iv .cover (u .device .shown 0) (u .device .among 0) in
             let z = ap (told g) e in omega arith
         shown (suc b) = elim (cases-lt (suc b) (o .next)) [
-            inl l ↦ (let z = before (suc b) (omega arith) l in omega arith)
+          | inl l ↦ (let z = before (suc b) (omega arith) l in omega arith)
           | inr l ↦ elim (cases-lt (suc b) (g .blocks)) [
-              inl low ↦ (let z = highest-covers (o .next) (g .blocks - o .next) (suc b) l (omega arith) in omega arith)
-            | inr far ↦ (let z = ap (told g) (parse-beyond g (suc b) (u .device .shown (suc b)) (let w = iv .limits .bodies in omega arith) far) in omega arith) ] ]
+            | inl low ↦ (let z = highest-covers (o .next) (g .blocks - o .next) (suc b) l (omega arith) in omega arith)
+            | inr far ↦ (let z = ap (told g) (parse-beyond g (suc b) (u .device .shown (suc b)) (let w = iv .limits .bodies in omega arith) far) in omega arith)
+          ]
+        ]
 
     ended-carded : (x : Ready) → o .ready ≡ x → Kept (u .device) (t .device) → Carded g (t .device) (surveyed (ended-by x o (u .device .shown)))
     ended-carded (Err e) is k = λ h q. clash-ok q
@@ -231,10 +237,11 @@ module _ (g : Geometry) (s : State) (ms : List Moment) (iv : Inv g s ms (present
 
         fine : (j : Geometry) → _≡_ {A = Ready} (Ok h) (Ok j) → (j ≡ g) × (ended-by (Ok h) o (u .device .shown) .highest ≤ last-identity) × ((b : ℕ) (y : Content) → May g (u .device) b y → told g y ≤ ended-by (Ok h) o (u .device .shown) .highest)
         fine j q =
-            let low = highest-low (from (o .next) (g .blocks - o .next)) in
-            ( sym (ok-same q) ∙ w .0
-            , (let e = same in let a = w .1 in omega arith)
-            , all-counted (ended-by (Ok h) o (u .device .shown) .highest) (omega arith) (w .2) (let e = same in omega arith) )
+            let low = highest-low (from (o .next) (g .blocks - o .next)) in (
+              sym (ok-same q) ∙ w .0,
+              (let e = same in let a = w .1 in omega arith),
+              all-counted (ended-by (Ok h) o (u .device .shown) .highest) (omega arith) (w .2) (let e = same in omega arith),
+            )
 
     ends-quiet : Still u t (surveyed (rule-of-card.surveyed o (u .device .shown))) ⊎ ((b : BlockNo) × events.Live (o .ready) × Gone u t (surveyed (rule-of-card.surveyed (lost-opened b o) (u .device .shown)))) → Quiet g s ms (after events.ending)
     unfolding rule-of-card.surveyed
@@ -296,7 +303,6 @@ module _ (g : Geometry) (s : State) (ms : List Moment) (iv : Inv g s ms (present
   module _ {A : Type 0} (plan : Card → Shown → Answer (Plan A)) (e : Event) (says : (c : Card) (shown : Shown) → Deed)
       (is : (c : Card) (shown : Shown) → planned c shown e ≡ says c shown) (refused : (c : Card) (shown : Shown) (x : Refusal) → plan c shown ≡ Err x → says c shown ≡ nothing)
       (ruled : (c : Card) (p : Plan A) → u .card ≡ surveyed c → plan c (u .device .shown) ≡ Ok p → Ruled e c (p .puts) (p .card)) where
-
     on-card : (c : Card) → u .card ≡ surveyed c → deed u e ≡ planned c (u .device .shown) e
     on-card c q = ap (λ (p : Phase). deed-on p (u .device .shown) e) q
 
@@ -307,7 +313,16 @@ module _ (g : Geometry) (s : State) (ms : List Moment) (iv : Inv g s ms (present
         let r = ruled c p q ok in
         let done = on-card c q ∙ r .done in
         record {
-          memory = c; card = q; doing = r .doing; done = done; ws = p .puts; joined = joined; counted = r .counted; top = r .top; rises = r .rises; low = r .low;
+          memory = c;
+          card = q;
+          doing = r .doing;
+          done = done;
+          ws = p .puts;
+          joined = joined;
+          counted = r .counted;
+          top = r .top;
+          rises = r .rises;
+          low = r .low;
           new = λ h l. ap (λ (d : Deed). gives d h) done ∙ r .new h l;
           fair = r .fair done;
           then = (then .0, then .1, λ h live. (let same = then .2 h live in (r .live h (ap (λ (d : Card). d .ready) (sym same) ∙ live), ap (λ (d : Card). d .highest) same ∙ r .reaches)));
@@ -356,8 +371,9 @@ module _ (g : Geometry) (s : State) (ms : List Moment) (iv : Inv g s ms (present
       let k = memory-known c (w .0) q (w .1) in
       let wr : Writes g (view g (u .device)) c h i x p = subst (λ (y : Geometry). Rooted y (seen y (u .device .shown)) → Writes y (seen y (u .device .shown)) c h i x p) (k .0) (w .2) rooted in
       let same : (p .card .ready ≡ c .ready) × (p .card .highest ≡ c .highest) = elim (wr .blocks) [
-          inl a ↦ (ap (λ (y : Card). y .ready) (a .after), ap (λ (y : Card). y .highest) (a .after))
-        | inr a ↦ (ap (λ (y : Card). y .ready) (a .after), ap (λ (y : Card). y .highest) (a .after)) ] in
+        | inl a ↦ (ap (λ (y : Card). y .ready) (a .after), ap (λ (y : Card). y .highest) (a .after))
+        | inr a ↦ (ap (λ (y : Card). y .ready) (a .after), ap (λ (y : Card). y .highest) (a .after))
+      ] in
       record {
         doing = wrote h i x;
         done = ok-deed (rule-of-changing.write h i x c (u .device .shown)) (λ p. wrote h i x) p ok;
@@ -394,7 +410,7 @@ module _ (g : Geometry) (s : State) (ms : List Moment) (iv : Inv g s ms (present
       let w = remove-means f n c (u .device .shown) p ok in
       let k = memory-known c (w .0) q (w .1) in
       let rm : (h : Handle) × Removes g (view g (u .device)) c f n h p =
-          subst (λ (y : Geometry). Rooted y (seen y (u .device .shown)) → (h : Handle) × Removes y (seen y (u .device .shown)) c f n h p) (k .0) (w .2) rooted in
+      subst (λ (y : Geometry). Rooted y (seen y (u .device .shown)) → (h : Handle) × Removes y (seen y (u .device .shown)) c f n h p) (k .0) (w .2) rooted in
       let h = rm .0 in
       let live : c .ready ≡ Ok g = w .1 ∙ ap Ok (k .0) in
       record {
@@ -428,15 +444,15 @@ module _ (g : Geometry) (s : State) (ms : List Moment) (iv : Inv g s ms (present
   moves (events.read h k room r) st = inl (reads-quiet (events.read h k room r) _ _ r (idle (events.read h k room r) (λ c. refl)) st)
   moves (events.create d f n r) st =
       changes-moves (rule-of-changing.create d f n) (events.create d f n r) (λ c shown. from-answer (rule-of-changing.create d f n c shown) (λ p. created d f n (p .answer)))
-          (λ c shown. refl) (λ c shown x e. err-nothing _ _ x e) (create-ruled d f n r) r st
+      (λ c shown. refl) (λ c shown x e. err-nothing _ _ x e) (create-ruled d f n r) r st
   moves (events.write h k x r) st =
       changes-moves (rule-of-changing.write h k x) (events.write h k x r) (λ c shown. from-answer (rule-of-changing.write h k x c shown) (λ p. wrote h k x))
-          (λ c shown. refl) (λ c shown y e. err-nothing _ _ y e) (write-ruled h k x r) r st
+      (λ c shown. refl) (λ c shown y e. err-nothing _ _ y e) (write-ruled h k x r) r st
   moves (events.shorten h n r) st =
       changes-moves (rule-of-changing.shorten h n) (events.shorten h n r) (λ c shown. from-answer (rule-of-changing.shorten h n c shown) (λ p. shortened h))
-          (λ c shown. refl) (λ c shown y e. err-nothing _ _ y e) (shorten-ruled h n r) r st
+      (λ c shown. refl) (λ c shown y e. err-nothing _ _ y e) (shorten-ruled h n r) r st
   moves (events.remove f n r) st =
       changes-moves (rule-of-changing.remove f n) (events.remove f n r) (λ c shown. from-answer (rule-of-changing.remove f n c shown) (λ p. from-answer (rule-of-reading.find f n (c .ready) shown) removed))
-          (λ c shown. refl) (λ c shown y e. err-nothing _ _ y e) (remove-ruled f n r) r st
+      (λ c shown. refl) (λ c shown y e. err-nothing _ _ y e) (remove-ruled f n r) r st
   moves (events.sync r) st = inl (sync-quiet r (st .memory .ready) (st .turn))
   moves events.cut st = inl (cut-quiet (st .0) (st .1))

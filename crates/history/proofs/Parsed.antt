@@ -1,20 +1,17 @@
 -- What a block that reads as a body or an entry says of its cells, and that contents of different kinds differ.
-use Prim.Native.Nat.{ℕ, zero, suc, _+_, _-_, _*_, _≤_, _<_}
+use Prim.Native.Nat.{ℕ, _≤_, _<_}
 use mathlib.Core.Path.{_≡_, refl, sym, ap, subst, _∙_}
-use mathlib.Core.List.{List, [], _∷_, _++_}
+use mathlib.Core.List.{List, []}
 use mathlib.Core.Bool.{Bool, true, false, cond, _&&_}
 use mathlib.Core.Logic.{_⊎_, inl, inr}
 use native.Mathlib.Omega.{arith}
-use lib.ListN.{length, getD, take, drop, set, replicate, length-take, length-drop}
+use lib.ListN.{length, getD, take, drop, length-take, length-drop}
 use lib.Dec.{eqb, leb, ltb}
-use Rattle.std.proofs.shelf.Tests.{eqb-true, ne-eqb, and-from, and-parts, lt-ltb, ltb-true, le-leb, leb-true, cond-true, cond-false}
-use Rattle.base.specs.declared.owner.Kind.{Kind}
-use Rattle.base.specs.declared.owner.Kind.the-variants.{File, Folder}
+use Rattle.std.proofs.shelf.Tests.{and-parts, leb-true}
 use Rattle.base.specs.declared.owner.Handle.{Handle}
 use Rattle.base.specs.declared.owner.Back.{Back}
 use Rattle.device.specs.Model.{Block}
-use Rattle.layout.specs.Format.{Name, Cell, Geometry, handle, back, Slot, Content, blank, cover, slotted, file-body, folder-body, ill-formed, Entry, entry, no-entry, le16, le32, between, numbers-of, cells-of, body-number, all-bodies, plain-bytes, slot-fields, slot-fits, slot-of, back-of, back-fits, file-body-of, folder-body-of, region, Region, cover-region, slot-region, body-region, beyond, by-kind, parse, encode, entry-of, entry-fits, blank-cell}
-use Rattle.rule.specs.Agree.{number, count}
+use Rattle.layout.specs.Format.{Name, Cell, Geometry, handle, Slot, Content, blank, cover, slotted, file-body, folder-body, ill-formed, Entry, entry, no-entry, le16, le32, between, cells-of, plain-bytes, back-of, back-fits, file-body-of, folder-body-of, Region, body-region, by-kind, parse, entry-of, entry-fits, blank-cell}
 use Rattle.layout.specs.Head.{cells}
 use Rattle.layout.specs.Laws.{whole-cells}
 use Rattle.layout.proofs.Cells.{cells-take, length-cells}
@@ -72,30 +69,34 @@ kinds false false false a b y e = inl (inr e)
 -- the cells of a block of 512 bytes
 cells-of-block : (z : Block) → length z ≡ 512 → (length (cells-of 15 (drop 16 z)) ≡ 15) × (whole-cells (cells-of 15 (drop 16 z)) ≡ true)
 unfolding cells
-cells-of-block z whole =
-    ( length-cells (drop 16 z)
-    , ap whole-cells (sym (cells-take (drop 16 z))) ∙ cells-whole (take 480 (drop 16 z)) (length-take 480 (drop 16 z) ∙ (let v = length-drop 16 z in omega arith)) )
+cells-of-block z whole = (
+  length-cells (drop 16 z),
+  ap whole-cells (sym (cells-take (drop 16 z))) ∙ cells-whole (take 480 (drop 16 z)) (length-take 480 (drop 16 z) ∙ (let v = length-drop 16 z in omega arith)),
+)
 
 pub folder-parsed : (g : Geometry) (b : ℕ) (z : Block) (k : Back) (es : List Cell) → g .slots < b → b < g .blocks → length z ≡ 512 → parse g b z ≡ folder-body k es → (length es ≡ 15) × (whole-cells es ≡ true)
 unfolding parse
 folder-parsed g b z k es up low whole e =
     let f : by-kind g body-region (getD z 0 0) z ≡ folder-body k es = ap (λ (t : Region). by-kind g t (getD z 0 0) z) (sym (body-lies g b up low)) ∙ e in
     elim (kinds (eqb (getD z 0 0) 0) (eqb (getD z 0 0) 4) (eqb (getD z 0 0) 5) (file-body-of g z) (folder-body-of g z) (folder-body k es) f) [
-        inl (inl q) ↦ apart q refl (λ w. omega arith)
+      | inl (inl q) ↦ apart q refl (λ w. omega arith)
       | inl (inr q) ↦ apart q refl (λ w. omega arith)
       | inr (inl q) ↦ elim (cond-parts (back-fits g z && leb (le16 z 10) 496) (file-body (back-of z) (between 16 (le16 z 10) z)) ill-formed (folder-body k es) q) [
-            inl w ↦ apart (w .1) refl (λ v. omega arith)
-          | inr w ↦ apart (w .1) refl (λ v. omega arith) ]
+        | inl w ↦ apart (w .1) refl (λ v. omega arith)
+        | inr w ↦ apart (w .1) refl (λ v. omega arith)
+      ]
       | inr (inr q) ↦ elim (cond-parts (back-fits g z && eqb (le16 z 10) 480) (folder-body (back-of z) (cells-of 15 (drop 16 z))) ill-formed (folder-body k es) q) [
-            inl w ↦ subst (λ (cs : List Cell). (length cs ≡ 15) × (whole-cells cs ≡ true)) (folder-cells (w .1)) (cells-of-block z whole)
-          | inr w ↦ apart (w .1) refl (λ v. omega arith) ] ]
+        | inl w ↦ subst (λ (cs : List Cell). (length cs ≡ 15) × (whole-cells cs ≡ true)) (folder-cells (w .1)) (cells-of-block z whole)
+        | inr w ↦ apart (w .1) refl (λ v. omega arith)
+      ]
+    ]
 
 -- ---- entries
 
 pub child-parsed : (g : Geometry) (e : Cell) (n : Name) (c : Handle) → entry-of g e ≡ entry n c → 1 ≤ c .slot .0
 unfolding entry-of
 child-parsed g e n c q = elim (cond-parts (entry-fits g e) (entry (between 8 (getD e 0 0) e) (handle (le16 e 2) (le32 e 4))) no-entry (entry n c) q) [
-    inr w ↦ no-such-entry (sym (w .1)) refl
+  | inr w ↦ no-such-entry (sym (w .1)) refl
   | inl w ↦
       (let x2 : Bool = ltb (le16 e 2) (g .slots) && (leb 1 (le32 e 4) && plain-bytes (between 8 (getD e 0 0) e)) in
       let x1 : Bool = leb 1 (le16 e 2) && x2 in
@@ -103,7 +104,8 @@ child-parsed g e n c q = elim (cond-parts (entry-fits g e) (entry (between 8 (ge
       let b = and-parts (leb (getD e 0 0) 24) x1 (a .1) in
       let d = and-parts (leb 1 (le16 e 2)) x2 (b .1) in
       let same : c ≡ handle (le16 e 2) (le32 e 4) = sym (entry-child (w .1)) in
-      subst (λ (h : Handle). 1 ≤ h .slot .0) (sym same) (leb-true 1 (le16 e 2) (d .0))) ]
+      subst (λ (h : Handle). 1 ≤ h .slot .0) (sym same) (leb-true 1 (le16 e 2) (d .0)))
+]
 
 pub blank-entry : (g : Geometry) → entry-of g blank-cell ≡ no-entry
 unfolding entry-of

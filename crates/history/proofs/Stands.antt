@@ -1,23 +1,21 @@
 -- What holds of every content that may stand, at every point of a history.
-use Prim.Native.Nat.{ℕ, zero, suc, _≤_, _<_, max}
-use mathlib.Core.Path.{_≡_, refl, sym, ap, subst, _∙_}
-use mathlib.Core.List.{List, [], _∷_, _++_}
-use mathlib.Core.Bool.{Bool, true, false, cond}
+use Prim.Native.Nat.{ℕ, zero, suc, _≤_, _<_}
+use mathlib.Core.Path.{_≡_, refl, sym, ap, _∙_}
+use mathlib.Core.List.{List, [], _∷_}
+use mathlib.Core.Bool.{true, false}
 use mathlib.Core.Logic.{_⊎_, inl, inr}
 use native.Mathlib.Omega.{arith}
 use lib.ListN.{length, getD, set, replicate}
-use Rattle.std.specs.declared.result.Result.the-variants.{Ok, Err}
-use Rattle.base.specs.declared.owner.Kind.{Kind}
+use Rattle.std.specs.declared.result.Result.the-variants.{Ok}
 use Rattle.base.specs.declared.owner.Handle.{Handle}
 use Rattle.base.specs.declared.owner.Back.{Back}
 use Rattle.device.specs.Model.{Model, Block, Stands, OnlyShown}
-use Rattle.layout.specs.Format.{Name, Cell, Geometry, back, Slot, Content, blank, cover, slotted, file-body, folder-body, ill-formed, Entry, entry, no-entry, blank-cell, in-limits, cover-of, parse, entry-of}
+use Rattle.layout.specs.Format.{Name, Cell, Geometry, Slot, Content, blank, cover, slotted, file-body, folder-body, ill-formed, Entry, entry, no-entry, blank-cell, in-limits, cover-of, parse, entry-of}
 use Rattle.layout.specs.Identities.{entry-told, highest-in, told}
 use Rattle.rule.specs.Agree.{View, seen}
-use Rattle.rule.specs.Card.{Card, Opened}
 use Rattle.rule.specs.Changing.{last-identity}
 use Rattle.history.specs.Events.{Phase, closed, opened, surveyed, State}
-use Rattle.history.specs.History.{Moment, Deed, gives}
+use Rattle.history.specs.History.{Moment, gives}
 use Rattle.history.proofs.Parsed.{blank-entry, past-entry, no-such-entry}
 use Rattle.history.proofs.Log.{did, Wrote, MadeIn}
 

@@ -1,16 +1,16 @@
 -- Where blocks lie, and how long what is written is.
 use Prim.Native.Nat.{ℕ, zero, suc, _+_, _-_, _*_, _≤_, _<_}
-use mathlib.Core.Path.{_≡_, refl, sym, ap, _∙_}
-use mathlib.Core.List.{List, [], _∷_, _++_}
-use mathlib.Core.Bool.{Bool, true, false, cond, _&&_}
+use mathlib.Core.Path.{_≡_, refl, ap, _∙_}
+use mathlib.Core.List.{List, [], _∷_}
+use mathlib.Core.Bool.{true}
 use native.Mathlib.Omega.{arith}
 use lib.ListN.{length, getD, replicate, length-append, length-replicate}
 use lib.Dec.{eqb, leb, ltb}
-use Rattle.std.proofs.shelf.Tests.{eqb-true, ne-eqb, and-from, and-parts, lt-ltb, le-leb, lt-leb, le-ltb, cond-true, cond-false}
+use Rattle.std.proofs.shelf.Tests.{eqb-true, ne-eqb, and-parts, lt-ltb, le-leb, lt-leb, le-ltb, cond-true, cond-false}
 use Rattle.base.specs.declared.owner.Handle.{Handle}
 use Rattle.base.specs.declared.owner.Back.{Back}
 use Rattle.device.specs.Model.{Block}
-use Rattle.layout.specs.Format.{Name, Cell, Geometry, Slot, Content, blank, cover, slotted, file-body, folder-body, ill-formed, numbers-bytes, cells-bytes, padded, region, Region, cover-region, slot-region, body-region, beyond, by-kind, parse, encode, cell, blank-cell, cover-of}
+use Rattle.layout.specs.Format.{Name, Cell, Geometry, Slot, blank, cover, slotted, file-body, folder-body, ill-formed, numbers-bytes, cells-bytes, padded, region, Region, cover-region, slot-region, body-region, beyond, by-kind, parse, encode, cell, blank-cell, cover-of}
 use Rattle.layout.specs.Laws.{whole-cells}
 
 -- ---- regions
