@@ -10,5 +10,5 @@ use Rattle.rule.specs.Run.{put-all, settled, landed, act, replies}
 use Rattle.rule.specs.Cases.{Cases-hold}
 
 pub cases-hold : Cases-hold
-unfolding _>>=_ highest-in check demand fits kind-is reading changing step named parse encode entry-of create write shorten remove format at-component all-named walk path find list damage status space read opening survey-step surveyed placed untaken replaces appends synced sync act replies put-all landed settled
+unfolding _>>=_ check demand fits kind-is reading changing step named parse encode entry-of highest-in create write shorten remove format at-component all-named walk path find list damage status space read opening survey-step surveyed placed untaken replaces appends synced sync act replies put-all landed settled
 cases-hold = refl
