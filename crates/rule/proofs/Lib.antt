@@ -11,3 +11,8 @@ pub mod Blocks
 pub mod Answered
 pub mod Lines
 pub mod Accepted
+pub mod Full
+pub mod Moving
+pub mod WriteMoves
+pub mod CreateMoves
+pub mod RemoveMoves
