@@ -16,24 +16,25 @@ use Rattle.device.specs.Model.{Model, Block, OnlyShown}
 use Rattle.device.specs.Effect.{puts}
 use Rattle.layout.specs.Format.{Name, Geometry, back, Slot, Content, blank, cover, slotted, file-body, folder-body, ill-formed, cover-of, in-limits, region, slot-region, body-region, parse, encode}
 use Rattle.layout.specs.Identities.{told}
-use Rattle.rule.specs.Agree.{Shown, View, number, root}
+use Rattle.rule.specs.Agree.{same-kind, Shown, View, number, root}
 use Rattle.rule.specs.Card.{Ready}
 use Rattle.rule.specs.Reading.{step, components}
 use Rattle.rule.specs.Reading as rule-of-reading
 use Rattle.rule.specs.Changing.{new-slot}
 use Rattle.rule.specs.Meaning.{Finds, the-root}
 use Rattle.rule.specs.Calls.{Formats}
+use Rattle.rule.proofs.Steps.{clash}
 use Rattle.rule.proofs.Plans.{clash-ok, bind-ok}
 use Rattle.rule.proofs.Blocks.{format-means}
-use Rattle.rule.proofs.Answered.{step-ok, find-means, read-means}
+use Rattle.rule.proofs.Answered.{opening-means, step-ok, find-means, read-means}
 use Rattle.history.specs.Events.{Phase, closed, opened, surveyed, State, Has, find, read}
 use Rattle.history.specs.History.{Formatted, Moment, present, History, Deed, gives}
-use Rattle.history.specs.Laws.{Made, OnTheWay, Reads-what-was-written, Finds-what-was-made, Paths-lead-to-what-was-made}
+use Rattle.history.specs.Laws.{Made, OnTheWay, Reads-what-was-written, Finds-what-was-made, Paths-lead-to-what-was-made, Formatted-cards-open}
 use Rattle.layout.proofs.Back.{read-as}
 use Rattle.history.proofs.Written.{slot-lies, body-lies, parse-cover, parse-beyond, slot-whole, blank-whole, cover-whole}
 use Rattle.history.proofs.Parsed.{slotted-same}
 use Rattle.history.proofs.Log.{wrote-earlier, made-earlier}
-use Rattle.history.proofs.Stands.{May, view, may-shown, only-may, may-fewer, Logged, logged-more, Carded, Limits, Inv}
+use Rattle.history.proofs.Stands.{May, view, may-shown, only-may, may-fewer, Logged, logged-more, Carded, Limits, RootSlot, Inv}
 use Rattle.history.proofs.Sorts.{Allowed, fresh-slot, slot-again, slot-blanked, fresh-body, file-again, folder-again}
 use Rattle.history.proofs.Moves.{Quiet, Busy, moves}
 
@@ -53,6 +54,7 @@ module _ (g : Geometry) (s : State) (ms : List Moment) (iv : Inv g s ms (present
   quiet-inv : Quiet g s ms m → Inv g s (m ∷ ms) (m .state)
   quiet-inv q = record {
     limits = iv .limits;
+    room = (let a = iv .room in let e = q .count in omega arith);
     cover = λ z i. iv .cover z (q .fewer 0 z i);
     root = λ y i. iv .root y (less 1 y i);
     whole = λ b z l i. iv .whole b z l (q .fewer b z i);
@@ -76,12 +78,19 @@ module _ (g : Geometry) (s : State) (ms : List Moment) (iv : Inv g s ms (present
           inr (subst (λ (c : Content). (told g c ≤ w .top) × Logged g s (m ∷ ms) c × Allowed g (view g (u .device)) (w .memory .highest) (w .doing) b c) same (f .counted, f .logged, f .allowed)))
     ]
 
-    root-kept : (y : Content) → Allowed g (view g (u .device)) (w .memory .highest) (w .doing) 1 y → (r : Slot) × (y ≡ slotted r) × (r .identity ≡ 1)
+    root-kept : (y : Content) → Allowed g (view g (u .device)) (w .memory .highest) (w .doing) 1 y → (r : Slot) × (y ≡ slotted r) × RootSlot r
     root-kept y (fresh-slot p) = absurd (p .free .unreached root (let e = p .block in omega arith) the-root)
     root-kept y (slot-again p) =
         let at : p .handle .slot .0 ≡ 0 = (let e = p .block in omega arith) in
         let r = iv .root (slotted (p .old)) (may-shown g (u .device) 1 (slotted (p .old)) (subst (λ (k : ℕ). view g (u .device) (suc k) ≡ slotted (p .old)) at (p .fits .holds))) in
-        (p .slot, p .content, p .own ∙ ap (λ (t : Slot). t .identity) (slotted-same (r .1)) ∙ r .2)
+        let same : p .old ≡ r .0 = slotted-same (r .1) in
+        ( p .slot
+        , p .content
+        , record {
+            own = p .own ∙ ap (λ (t : Slot). t .identity) same ∙ r .2 .own;
+            kind = elim (p .sort) [ inl q ↦ q .1 | inr q ↦ clash (ap (same-kind Folder) (sym (q .0) ∙ ap (λ (t : Slot). t .kind) same ∙ r .2 .kind)) ];
+            parent = p .parent ∙ ap (λ (t : Slot). t .parent) same ∙ r .2 .parent;
+          } )
     root-kept y (slot-blanked p) = absurd (let e = p .block in let l = p .above in omega arith)
     root-kept y (fresh-body p) = absurd (let l = p .free .above in let k = iv .limits .low in omega arith)
     root-kept y (file-again p) = absurd (let l = p .above in let k = iv .limits .low in omega arith)
@@ -90,6 +99,7 @@ module _ (g : Geometry) (s : State) (ms : List Moment) (iv : Inv g s ms (present
     busy-inv : Inv g s (m ∷ ms) (m .state)
     busy-inv = record {
       limits = iv .limits;
+      room = (let a = iv .room in let e = w .count in omega arith);
       cover = λ z i. elim (w .joined 0 z i) [
         | inl old ↦ iv .cover z old
         | inr put ↦ (let f = w .fair 0 z put in let l = allowed-above g (view g (u .device)) (w .memory .highest) (w .doing) 0 (f .content) (f .allowed) in absurd (omega arith))
@@ -173,8 +183,9 @@ module _ (g : Geometry) (s : State) (f : Formatted g s) where
   pub start-inv : Inv g s [] s
   start-inv = record {
     limits = limits;
+    room = (let a = fm .room in let b = f .altered .count in let c = f .settled .stayed .kept .count in omega arith);
     cover = λ z i. ap cover-of (only 0 z i) ∙ sym (parse-cover g (s .device .shown 0)) ∙ cover-held (shows 0 ∙ fm .cover (f .before .shown));
-    root = λ y i. (top, plain 1 y i .root refl, refl);
+    root = λ y i. (top, plain 1 y i .root refl, record { own = refl; kind = refl; parent = refl });
     whole = λ b z l i. ap length (only b z i) ∙ whole-at b l;
     narrow = λ b y i. (let a = plain b y i .told in omega arith);
     logged = λ b y i. plain b y i .logged;
@@ -192,6 +203,22 @@ history-inv g s [] h = start-inv g s h
 history-inv g s (m ∷ ms) h =
     let iv = history-inv g s ms (h .0) in
     move-inv g s ms iv m (moves g s ms iv (m .state) (m .event) (h .1))
+
+-- the card can be opened at every point
+pub cards-open : Formatted-cards-open
+cards-open g s ms hist =
+    let iv = history-inv g s ms hist in
+    let m = present s ms .device in
+    let r = iv .root (view g m 1) (may-shown g m 1 (view g m 1) refl) in
+    opening-means (m .count) (m .shown) g .1 (record {
+      some = (let a = iv .room in let b = iv .limits .bodies in omega arith);
+      cover = iv .cover (m .shown 0) (m .among 0);
+      room = iv .room;
+      top = r .0;
+      fits = record { inside = (let a = iv .limits .low in omega arith); holds = r .1; same = r .2 .own };
+      kind = r .2 .kind;
+      parent = r .2 .parent;
+    })
 
 -- ---- the laws on reads and finds
 

@@ -47,6 +47,7 @@ use Rattle.history.proofs.Puts.{write-fair, shorten-fair, create-fair, fresh, 
 -- nothing joins what may stand
 pub record Quiet (g : Geometry) (s : State) (ms : List Moment) (m : Moment) : Type 0 where
   pub idle : did s m ms ≡ nothing
+  pub count : m .state .device .count ≡ present s ms .device .count
   pub fewer : (b : ℕ) (z : Block) → Stands (m .state .device) b z → Stands (present s ms .device) b z
   pub card : Carded g (m .state .device) (m .state .card)
 
@@ -56,6 +57,7 @@ pub record Busy (g : Geometry) (s : State) (ms : List Moment) (m : Moment) : Typ
   pub card : present s ms .card ≡ surveyed memory
   pub doing : Deed
   pub done : did s m ms ≡ doing
+  pub count : m .state .device .count ≡ present s ms .device .count
   pub ws : List Put
   pub joined : (b : ℕ) (z : Block) → Stands (m .state .device) b z → Stands (present s ms .device) b z ⊎ PutAt b z ws
   pub counted : (b : ℕ) (y : Content) → May g (present s ms .device) b y → told g y ≤ memory .highest
@@ -100,6 +102,7 @@ module _ (g : Geometry) (s : State) (ms : List Moment) (iv : Inv g s ms (present
   still-quiet : (e : Event) → deed u e ≡ nothing → Still u t (u .card) → Quiet g s ms (after e)
   still-quiet e i st = record {
     idle = i;
+    count = st .kept .count;
     fewer = st .kept .stands;
     card = subst (Carded g (t .device)) (sym (st .card)) (carded-kept g (u .device) (t .device) (st .kept) (u .card) (iv .card));
   }
@@ -107,6 +110,7 @@ module _ (g : Geometry) (s : State) (ms : List Moment) (iv : Inv g s ms (present
   gone-quiet : (e : Event) (b : BlockNo) (p : Phase) → deed u e ≡ nothing → u .card ≡ p → Gone u t (gone-at b p) → Quiet g s ms (after e)
   gone-quiet e b p i q st = record {
     idle = i;
+    count = st .lost .kept .count;
     fewer = st .lost .kept .stands;
     card = subst (Carded g (t .device)) (sym (st .card)) (carded-gone g (u .device) (t .device) b (st .lost .kept) p (subst (Carded g (u .device)) q (iv .card)));
   }
@@ -137,11 +141,13 @@ module _ (g : Geometry) (s : State) (ms : List Moment) (iv : Inv g s ms (present
   opens-quiet op = elim (op .turn) [
     | inl st ↦ record {
       idle = i;
+      count = st .kept .count;
       fewer = st .kept .stands;
       card = subst (Carded g (t .device)) (sym (st .card)) (only-kept (u .device) (t .device) (st .kept) only, λ h e. (opens-geometry h e, omega arith, λ b up low. absurd (omega arith)));
     }
     | inr w ↦ record {
       idle = i;
+      count = w .1 .lost .kept .count;
       fewer = w .1 .lost .kept .stands;
       card = subst (Carded g (t .device)) (sym (w .1 .card)) (only-kept (u .device) (t .device) (w .1 .lost .kept) only, λ h e. clash-ok e);
     }
@@ -188,6 +194,7 @@ module _ (g : Geometry) (s : State) (ms : List Moment) (iv : Inv g s ms (present
     survey-quiet : (r : Answer (ℕ × ℕ)) (a : Answer Surveying) → survey-step o (u .device .shown) ≡ a → By-step a o u r t → Quiet g s ms (after (events.survey r))
     survey-quiet r (Ok w) e (inl q) = record {
       idle = idle-deed (u .card) (u .device .shown) (events.survey r) (λ c. refl);
+      count = q .1 .kept .count;
       fewer = q .1 .kept .stands;
       card = subst (Carded g (t .device)) (sym (q .1 .card)) (step-carded w e (q .1 .kept));
     }
@@ -247,11 +254,13 @@ module _ (g : Geometry) (s : State) (ms : List Moment) (iv : Inv g s ms (present
     unfolding rule-of-card.surveyed
     ends-quiet (inl st) = record {
       idle = idle-deed (u .card) (u .device .shown) events.ending (λ c. refl);
+      count = st .kept .count;
       fewer = st .kept .stands;
       card = subst (Carded g (t .device)) (sym (st .card)) (ended-carded (o .ready) refl (st .kept));
     }
     ends-quiet (inr w) = record {
       idle = idle-deed (u .card) (u .device .shown) events.ending (λ c. refl);
+      count = w .2 .lost .kept .count;
       fewer = w .2 .lost .kept .stands;
       card = subst (Carded g (t .device)) (sym (w .2 .card)) (λ h q. clash-ok q);
     }
@@ -265,6 +274,7 @@ module _ (g : Geometry) (s : State) (ms : List Moment) (iv : Inv g s ms (present
       let k = kept (w .0) (w .2) in
       record {
         idle = idle-deed (u .card) (u .device .shown) (events.sync r) (λ c. refl);
+        count = k .count;
         fewer = k .stands;
         card = subst (Carded g (t .device)) (sym (w .3)) (carded-kept g (u .device) (t .device) k (u .card) (iv .card));
       }
@@ -276,6 +286,7 @@ module _ (g : Geometry) (s : State) (ms : List Moment) (iv : Inv g s ms (present
   cut-quiet : Cut (u .device) (t .device) → t .card ≡ closed → Quiet g s ms (after events.cut)
   cut-quiet c e = record {
     idle = idle-deed (u .card) (u .device .shown) events.cut (λ c. refl);
+    count = c .count;
     fewer = λ b z i. subst (Stands (u .device) b) (sym (c .only b z i)) (c .landed b);
     card = subst (Carded g (t .device)) (sym e) (c .only);
   }
@@ -285,7 +296,7 @@ module _ (g : Geometry) (s : State) (ms : List Moment) (iv : Inv g s ms (present
   rooted : Rooted g (view g (u .device))
   rooted =
       let w = iv .root (view g (u .device) 1) (may-shown g (u .device) 1 (view g (u .device) 1) refl) in
-      (w .0, record { inside = (let l = iv .limits .low in omega arith); holds = w .1; same = w .2 })
+      (w .0, record { inside = (let l = iv .limits .low in omega arith); holds = w .1; same = w .2 .own })
 
   -- what a plan brings, where the rule has one
   pub record Ruled (e : Event) (c : Card) (ws : List Put) (next : Card) : Type 0 where
@@ -306,10 +317,10 @@ module _ (g : Geometry) (s : State) (ms : List Moment) (iv : Inv g s ms (present
     on-card : (c : Card) → u .card ≡ surveyed c → deed u e ≡ planned c (u .device .shown) e
     on-card c q = ap (λ (p : Phase). deed-on p (u .device .shown) e) q
 
-    busy : (c : Card) (p : Plan A) → u .card ≡ surveyed c → plan c (u .device .shown) ≡ Ok p →
+    busy : (c : Card) (p : Plan A) → u .card ≡ surveyed c → plan c (u .device .shown) ≡ Ok p → t .device .count ≡ u .device .count →
         ((b : ℕ) (z : Block) → Stands (t .device) b z → Stands (u .device) b z ⊎ PutAt b z (p .puts)) →
         ((d : Card) × (t .card ≡ surveyed d) × ((h : Geometry) → d .ready ≡ Ok h → (d ≡ p .card))) → Busy g s ms (after e)
-    busy c p q ok joined then =
+    busy c p q ok count joined then =
         let r = ruled c p q ok in
         let done = on-card c q ∙ r .done in
         record {
@@ -317,6 +328,7 @@ module _ (g : Geometry) (s : State) (ms : List Moment) (iv : Inv g s ms (present
           card = q;
           doing = r .doing;
           done = done;
+          count = count;
           ws = p .puts;
           joined = joined;
           counted = r .counted;
@@ -329,8 +341,8 @@ module _ (g : Geometry) (s : State) (ms : List Moment) (iv : Inv g s ms (present
         }
 
     by-plan : (c : Card) (r : Answer A) (a : Answer (Plan A)) → u .card ≡ surveyed c → plan c (u .device .shown) ≡ a → By-plan a c u r t → Quiet g s ms (after e) ⊎ Busy g s ms (after e)
-    by-plan c r (Ok p) q ok (inl w) = inr (busy c p q ok (w .altered .joined) (p .card, w .card, λ h live. refl))
-    by-plan c r (Ok p) q ok (inr w) = inr (busy c p q ok (w .altered .joined) (lost (w .at) c, w .card, λ h live. clash-ok live))
+    by-plan c r (Ok p) q ok (inl w) = inr (busy c p q ok (w .altered .count) (w .altered .joined) (p .card, w .card, λ h live. refl))
+    by-plan c r (Ok p) q ok (inr w) = inr (busy c p q ok (w .altered .count) (w .altered .joined) (lost (w .at) c, w .card, λ h live. clash-ok live))
     by-plan c r (Err x) q bad (inl w) = inl (still-quiet e (on-card c q ∙ is c (u .device .shown) ∙ refused c (u .device .shown) x bad) (w .1))
     by-plan c r (Err x) q bad (inr w) = inl (gone-quiet e (w .0) (surveyed c) (on-card c q ∙ is c (u .device .shown) ∙ refused c (u .device .shown) x bad) q (w .3))
 

@@ -12,6 +12,7 @@ use Rattle.base.specs.declared.owner.Handle.{Handle}
 use Rattle.base.specs.declared.refusal.PathRefusal.{PathRefusal}
 use Rattle.layout.specs.Format.{Name, Geometry}
 use Rattle.rule.specs.Agree.{View, seen, root}
+use Rattle.rule.specs.Card.{opening}
 use Rattle.rule.specs.Reading.{Status, step, components}
 use Rattle.rule.specs.Reading as rule-of-reading
 use Rattle.history.specs.Events.{State, Event, find, path, read, sync}
@@ -93,3 +94,10 @@ Settled-files-stay = (g : Geometry) (s t : State) (older newer : List Moment) (p
     History g s (newer ++ after (sync (Ok tt)) t older) → FileAt g t p h → Untouched s (after (sync (Ok tt)) t older) newer h →
     SameFile g t (present s (newer ++ after (sync (Ok tt)) t older)) p h
     × (maker s (newer ++ after (sync (Ok tt)) t older) h ≡ maker s (after (sync (Ok tt)) t older) h)
+
+-- ---- the card itself
+
+-- a card that was formatted can be opened at every point: no cut loses its cover or its root
+abbrev pub Formatted-cards-open : Type 0
+Formatted-cards-open = (g : Geometry) (s : State) (ms : List Moment) → History g s ms →
+    opening (present s ms .device .count) (present s ms .device .shown) ≡ Ok g
