@@ -29,7 +29,7 @@ use Rattle.rule.proofs.Blocks.{format-means}
 use Rattle.rule.proofs.Answered.{opening-means, step-ok, find-means, read-means}
 use Rattle.history.specs.Events.{Phase, closed, opened, surveyed, State, Has, find, read}
 use Rattle.history.specs.History.{Formatted, Moment, present, History, Deed, gives}
-use Rattle.history.specs.Laws.{Made, OnTheWay, Reads-what-was-written, Finds-what-was-made, Paths-lead-to-what-was-made, Formatted-cards-open}
+use Rattle.history.specs.Laws.{Made, OnTheWay, Reads-what-was-written, Finds-what-was-made, Paths-lead-to-what-was-made, Formatted-cards-open, Surveyed-cards-keep-true}
 use Rattle.layout.proofs.Back.{read-as}
 use Rattle.history.proofs.Written.{slot-lies, body-lies, parse-cover, parse-beyond, slot-whole, blank-whole, cover-whole}
 use Rattle.history.proofs.Parsed.{slotted-same}
@@ -83,14 +83,15 @@ module _ (g : Geometry) (s : State) (ms : List Moment) (iv : Inv g s ms (present
     root-kept y (slot-again p) =
         let at : p .handle .slot .0 ≡ 0 = (let e = p .block in omega arith) in
         let r = iv .root (slotted (p .old)) (may-shown g (u .device) 1 (slotted (p .old)) (subst (λ (k : ℕ). view g (u .device) (suc k) ≡ slotted (p .old)) at (p .fits .holds))) in
-        let same : p .old ≡ r .0 = slotted-same (r .1) in
-        ( p .slot
-        , p .content
-        , record {
+        let same : p .old ≡ r .0 = slotted-same (r .1) in (
+          p .slot,
+          p .content,
+          record {
             own = p .own ∙ ap (λ (t : Slot). t .identity) same ∙ r .2 .own;
             kind = elim (p .sort) [ inl q ↦ q .1 | inr q ↦ clash (ap (same-kind Folder) (sym (q .0) ∙ ap (λ (t : Slot). t .kind) same ∙ r .2 .kind)) ];
             parent = p .parent ∙ ap (λ (t : Slot). t .parent) same ∙ r .2 .parent;
-          } )
+          },
+        )
     root-kept y (slot-blanked p) = absurd (let e = p .block in let l = p .above in omega arith)
     root-kept y (fresh-body p) = absurd (let l = p .free .above in let k = iv .limits .low in omega arith)
     root-kept y (file-again p) = absurd (let l = p .above in let k = iv .limits .low in omega arith)
@@ -115,7 +116,8 @@ module _ (g : Geometry) (s : State) (ms : List Moment) (iv : Inv g s ms (present
           let k = w .then .2 h live in (
             k .0,
             (let e = k .1 in let l = w .low in omega arith),
-            λ b y i. elim (joins b y i) [ inl old ↦ (let a = w .counted b y old in let r = w .rises in let e = k .1 in omega arith) | inr new ↦ (let a = new .0 in let e = k .1 in omega arith) ],
+            (λ b y i. elim (joins b y i) [ inl old ↦ (let a = w .counted b y old in let r = w .rises in let e = k .1 in omega arith) | inr new ↦ (let a = new .0 in let e = k .1 in omega arith) ]),
+            k .2,
           ));
     }
 
@@ -219,6 +221,12 @@ cards-open g s ms hist =
       kind = r .2 .kind;
       parent = r .2 .parent;
     })
+
+-- what a surveyed card keeps is true
+pub cards-keep-true : Surveyed-cards-keep-true
+cards-keep-true g h s ms c hist is live =
+    let w = subst (Carded g (present s ms .device)) is (history-inv g s ms hist .card) h live in
+    (w .0, record { highest = λ b z i. w .2 b (parse g b z) (z, i, refl); cursors = w .3 })
 
 -- ---- the laws on reads and finds
 

@@ -30,9 +30,10 @@ use Rattle.rule.specs.Reading as rule-of-reading
 use Rattle.rule.specs.Changing.{last-identity}
 use Rattle.rule.specs.Changing as rule-of-changing
 use Rattle.rule.specs.Meaning.{Rooted}
+use Rattle.rule.specs.Readings.{InRange}
 use Rattle.rule.specs.Calls.{Writes, Shortens, Creates, Removes}
 use Rattle.rule.proofs.Plans.{clash-ok, bind-ok, demand-ok, ok-same, create-means, write-means, shorten-means, remove-means}
-use Rattle.rule.proofs.Answered.{find-means}
+use Rattle.rule.proofs.Answered.{find-means, create-keeps-range, write-keeps-range}
 use Rattle.history.specs.Events as events
 use Rattle.history.specs.Events.{Phase, closed, opened, surveyed, State, Event, gone-at, Still, Gone, Reads, By-plan, Changes, By-device, Opens, By-step, Step}
 use Rattle.history.specs.History.{Moment, present, Deed, created, wrote, shortened, removed, nothing, from-answer, planned, deed-on, deed, gives}
@@ -66,7 +67,7 @@ pub record Busy (g : Geometry) (s : State) (ms : List Moment) (m : Moment) : Typ
   pub low : top ≤ last-identity
   pub new : (h : Handle) → h .identity .0 ≤ memory .highest → gives (did s m ms) h ≡ false
   pub fair : (b : ℕ) (z : Block) → PutAt b z ws → Fair g (view g (present s ms .device)) s (m ∷ ms) doing (memory .highest) top b z
-  pub then : (c : Card) × (m .state .card ≡ surveyed c) × ((h : Geometry) → c .ready ≡ Ok h → (h ≡ g) × (c .highest ≡ top))
+  pub then : (c : Card) × (m .state .card ≡ surveyed c) × ((h : Geometry) → c .ready ≡ Ok h → (h ≡ g) × (c .highest ≡ top) × InRange g c)
 
 -- ---- what a quiet step leaves of the card
 
@@ -79,7 +80,7 @@ carded-kept g m n k (opened o) c = (
   only-kept m n k (c .0),
   λ h e. let w = c .1 h e in (w .0, w .1, λ b up low. subst (λ (f : ℕ → Block). told g (seen g f b) ≤ o .highest) (sym (k .shown)) (w .2 b up low)),
 )
-carded-kept g m n k (surveyed c) d = λ h e. let w = d h e in (w .0, w .1, λ b y i. w .2 b y (may-fewer g m n (k .stands) b y i))
+carded-kept g m n k (surveyed c) d = λ h e. let w = d h e in (w .0, w .1, (λ b y i. w .2 b y (may-fewer g m n (k .stands) b y i)), w .3)
 
 carded-gone : (g : Geometry) (m n : Model) (b : BlockNo) → Kept m n → (p : Phase) → Carded g m p → Carded g n (gone-at b p)
 carded-gone g m n b k closed c = only-kept m n k c
@@ -242,12 +243,13 @@ module _ (g : Geometry) (s : State) (ms : List Moment) (iv : Inv g s ms (present
         same : highest-of h (seen h (u .device .shown)) (from (o .next) (h .blocks - o .next)) ≡ highest-of g (view g (u .device)) (from (o .next) (g .blocks - o .next))
         same = ap (λ (x : Geometry). highest-of x (seen x (u .device .shown)) (from (o .next) (x .blocks - o .next))) (w .0)
 
-        fine : (j : Geometry) → _≡_ {A = Ready} (Ok h) (Ok j) → (j ≡ g) × (ended-by (Ok h) o (u .device .shown) .highest ≤ last-identity) × ((b : ℕ) (y : Content) → May g (u .device) b y → told g y ≤ ended-by (Ok h) o (u .device .shown) .highest)
+        fine : (j : Geometry) → _≡_ {A = Ready} (Ok h) (Ok j) → (j ≡ g) × (ended-by (Ok h) o (u .device .shown) .highest ≤ last-identity) × ((b : ℕ) (y : Content) → May g (u .device) b y → told g y ≤ ended-by (Ok h) o (u .device .shown) .highest) × InRange g (ended-by (Ok h) o (u .device .shown))
         fine j q =
             let low = highest-low (from (o .next) (g .blocks - o .next)) in (
               sym (ok-same q) ∙ w .0,
               (let e = same in let a = w .1 in omega arith),
               all-counted (ended-by (Ok h) o (u .device .shown) .highest) (omega arith) (w .2) (let e = same in omega arith),
+              (let e = ap (λ (x : Geometry). x .slots) (w .0) in let l = iv .limits .bodies in record { slot = omega arith; body = ((omega arith), (omega arith)) }),
             )
 
     ends-quiet : Still u t (surveyed (rule-of-card.surveyed o (u .device .shown))) ⊎ ((b : BlockNo) × events.Live (o .ready) × Gone u t (surveyed (rule-of-card.surveyed (lost-opened b o) (u .device .shown)))) → Quiet g s ms (after events.ending)
@@ -310,6 +312,7 @@ module _ (g : Geometry) (s : State) (ms : List Moment) (iv : Inv g s ms (present
     pub fair : did s (after e) ms ≡ doing → (b : ℕ) (z : Block) → PutAt b z ws → Fair g (view g (u .device)) s (after e ∷ ms) doing (c .highest) top b z
     pub live : (h : Geometry) → next .ready ≡ Ok h → h ≡ g
     pub reaches : next .highest ≡ top
+    pub range : InRange g next
 
   module _ {A : Type 0} (plan : Card → Shown → Answer (Plan A)) (e : Event) (says : (c : Card) (shown : Shown) → Deed)
       (is : (c : Card) (shown : Shown) → planned c shown e ≡ says c shown) (refused : (c : Card) (shown : Shown) (x : Refusal) → plan c shown ≡ Err x → says c shown ≡ nothing)
@@ -337,7 +340,7 @@ module _ (g : Geometry) (s : State) (ms : List Moment) (iv : Inv g s ms (present
           low = r .low;
           new = λ h l. ap (λ (d : Deed). gives d h) done ∙ r .new h l;
           fair = r .fair done;
-          then = (then .0, then .1, λ h live. (let same = then .2 h live in (r .live h (ap (λ (d : Card). d .ready) (sym same) ∙ live), ap (λ (d : Card). d .highest) same ∙ r .reaches)));
+          then = (then .0, then .1, λ h live. (let same = then .2 h live in (r .live h (ap (λ (d : Card). d .ready) (sym same) ∙ live), ap (λ (d : Card). d .highest) same ∙ r .reaches, subst (InRange g) (sym same) (r .range))));
         }
 
     by-plan : (c : Card) (r : Answer A) (a : Answer (Plan A)) → u .card ≡ surveyed c → plan c (u .device .shown) ≡ a → By-plan a c u r t → Quiet g s ms (after e) ⊎ Busy g s ms (after e)
@@ -350,7 +353,7 @@ module _ (g : Geometry) (s : State) (ms : List Moment) (iv : Inv g s ms (present
     changes-moves r ch = by-plan (ch .memory) r (plan (ch .memory) (u .device .shown)) (ch .card) refl (ch .turn)
 
   -- the memory of a surveyed card whose plan was accepted
-  memory-known : (c : Card) (h : Geometry) → u .card ≡ surveyed c → c .ready ≡ Ok h → (h ≡ g) × (c .highest ≤ last-identity) × ((b : ℕ) (y : Content) → May g (u .device) b y → told g y ≤ c .highest)
+  memory-known : (c : Card) (h : Geometry) → u .card ≡ surveyed c → c .ready ≡ Ok h → (h ≡ g) × (c .highest ≤ last-identity) × ((b : ℕ) (y : Content) → May g (u .device) b y → told g y ≤ c .highest) × InRange g c
   memory-known c h q live = subst (Carded g (u .device)) q (iv .card) h live
 
   err-nothing : {A : Type 0} (a : Answer A) (k : A → Deed) (x : Refusal) → a ≡ Err x → from-answer a k ≡ nothing
@@ -375,6 +378,7 @@ module _ (g : Geometry) (s : State) (ms : List Moment) (iv : Inv g s ms (present
         fair = λ done. create-fair g s ms u iv (c .highest) (k .2) (k .1) (after (events.create d f n r)) d f n c p cr refl done;
         live = λ h e. sym (ok-same (sym (ap (λ (x : Card). x .ready) (cr .after) ∙ w .1) ∙ e)) ∙ k .0;
         reaches = ap (λ (x : Card). x .highest) (cr .after) ∙ cr .fresh;
+        range = create-keeps-range g (view g (u .device)) c d f n p cr (k .3);
       }
 
   write-ruled : (h : Handle) (i : ℕ) (x : List ℕ) (r : Answer (Unit {0})) (c : Card) (p : Plan (Unit {0})) → u .card ≡ surveyed c → rule-of-changing.write h i x c (u .device .shown) ≡ Ok p → Ruled (events.write h i x r) c (p .puts) (p .card)
@@ -397,6 +401,7 @@ module _ (g : Geometry) (s : State) (ms : List Moment) (iv : Inv g s ms (present
         fair = λ done. write-fair g s ms u iv (c .highest) (k .2) (k .1) (after (events.write h i x r)) h i x done c p wr;
         live = λ y e. sym (ok-same (sym (same .0 ∙ w .1) ∙ e)) ∙ k .0;
         reaches = same .1;
+        range = write-keeps-range g (view g (u .device)) c h i x p wr (k .3);
       }
 
   shorten-ruled : (h : Handle) (n : ℕ) (r : Answer (Unit {0})) (c : Card) (p : Plan (Unit {0})) → u .card ≡ surveyed c → rule-of-changing.shorten h n c (u .device .shown) ≡ Ok p → Ruled (events.shorten h n r) c (p .puts) (p .card)
@@ -415,6 +420,7 @@ module _ (g : Geometry) (s : State) (ms : List Moment) (iv : Inv g s ms (present
         fair = λ done. shorten-fair g s ms u iv (c .highest) (k .2) (k .1) (after (events.shorten h n r)) h n c p sh;
         live = λ y e. sym (ok-same (sym (ap (λ (x : Card). x .ready) (sh .after) ∙ w .1) ∙ e)) ∙ k .0;
         reaches = ap (λ (x : Card). x .highest) (sh .after);
+        range = subst (InRange g) (sym (sh .after)) (k .3);
       }
 
   remove-ruled : (f : Handle) (n : Name) (r : Answer (Unit {0})) (c : Card) (p : Plan (Unit {0})) → u .card ≡ surveyed c → rule-of-changing.remove f n c (u .device .shown) ≡ Ok p → Ruled (events.remove f n r) c (p .puts) (p .card)
@@ -437,6 +443,7 @@ module _ (g : Geometry) (s : State) (ms : List Moment) (iv : Inv g s ms (present
         fair = λ done. remove-fair g s ms u iv (c .highest) (k .2) (k .1) (after (events.remove f n r)) f n h c p (rm .1) done;
         live = λ y e. sym (ok-same (sym (ap (λ (x : Card). x .ready) (rm .1 .after) ∙ w .1) ∙ e)) ∙ k .0;
         reaches = ap (λ (x : Card). x .highest) (rm .1 .after);
+        range = subst (InRange g) (sym (rm .1 .after)) (k .3);
       }
 
   idle : (e : Event) → ((c : Card) → planned c (u .device .shown) e ≡ nothing) → deed u e ≡ nothing

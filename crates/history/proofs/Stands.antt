@@ -15,6 +15,7 @@ use Rattle.layout.specs.Format.{Name, Cell, Geometry, Slot, Content, blank, cov
 use Rattle.layout.specs.Identities.{entry-told, highest-in, told}
 use Rattle.rule.specs.Agree.{View, seen, root}
 use Rattle.rule.specs.Changing.{last-identity}
+use Rattle.rule.specs.Readings.{InRange}
 use Rattle.history.specs.Events.{Phase, closed, opened, surveyed, State}
 use Rattle.history.specs.History.{Moment, gives}
 use Rattle.history.proofs.Parsed.{blank-entry, past-entry, no-such-entry}
@@ -114,7 +115,7 @@ logged-more g s m ms ill-formed ng l = tt
 abbrev pub Carded : Geometry → Model → Phase → Type 0
 Carded g m closed = OnlyShown m
 Carded g m (opened o) = OnlyShown m × ((h : Geometry) → o .ready ≡ Ok h → (h ≡ g) × (o .highest ≤ last-identity) × ((b : ℕ) → 0 < b → b < o .next → told g (view g m b) ≤ o .highest))
-Carded g m (surveyed c) = (h : Geometry) → c .ready ≡ Ok h → (h ≡ g) × (c .highest ≤ last-identity) × ((b : ℕ) (y : Content) → May g m b y → told g y ≤ c .highest)
+Carded g m (surveyed c) = (h : Geometry) → c .ready ≡ Ok h → (h ≡ g) × (c .highest ≤ last-identity) × ((b : ℕ) (y : Content) → May g m b y → told g y ≤ c .highest) × InRange g c
 
 pub record Limits (g : Geometry) : Type 0 where
   pub low : 2 ≤ g .slots
