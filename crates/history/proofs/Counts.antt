@@ -1,17 +1,13 @@
 -- Which calls count as made.
-use Prim.Native.Nat.{ℕ}
-use mathlib.Core.Path.{_≡_, refl, sym, ap, subst, _∙_}
-use mathlib.Core.List.{List}
+use mathlib.Core.Path.{_≡_, refl, sym, ap, _∙_}
 use mathlib.Core.Logic.{_⊎_, inl, inr}
-use Rattle.std.specs.declared.result.Result.{Result}
 use Rattle.std.specs.declared.result.Result.the-variants.{Ok, Err}
 use Rattle.base.specs.declared.owner.Kind.the-variants.{Folder}
 use Rattle.base.specs.declared.owner.Handle.{Handle}
-use Rattle.layout.specs.Format.{Name, Geometry, good-name}
+use Rattle.layout.specs.Format.{Name}
 use Rattle.rule.specs.Agree.{Shown, seen}
 use Rattle.rule.specs.Check.{Answer}
 use Rattle.rule.specs.Card.{Card, Plan}
-use Rattle.rule.specs.Meaning.{Finds}
 use Rattle.rule.specs.Reading.{named}
 use Rattle.rule.specs.Reading as rule-of-reading
 use Rattle.rule.specs.Changing.{remove}
@@ -20,7 +16,7 @@ use Rattle.rule.proofs.Means.{found-is-found}
 use Rattle.rule.proofs.Plans.{clash-ok, bind-ok, check-ok, demand-ok, ok-same, changing-ok}
 use Rattle.rule.proofs.Answered.{find-means}
 use Rattle.history.specs.Events as events
-use Rattle.history.specs.Events.{Phase, surveyed, State, Event, By-plan, Changes}
+use Rattle.history.specs.Events.{Phase, State, Event, By-plan, Changes}
 use Rattle.history.specs.History.{Deed, created, wrote, shortened, removed, nothing, from-answer, planned, deed-on, deed}
 use Rattle.history.specs.Counts.{Accepted-calls-count, Accepted-or-gone, Refused-calls-do-nothing, Calls-count}
 

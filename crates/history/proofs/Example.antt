@@ -1,10 +1,10 @@
 -- The example history, on a device that keeps every content until a sync.
-use Prim.Native.Nat.{ℕ, zero, suc}
-use mathlib.Core.Path.{_≡_, refl, sym, ap, subst, _∙_}
+use Prim.Native.Nat.{ℕ}
+use mathlib.Core.Path.{_≡_, refl, sym, subst, _∙_}
 use mathlib.Core.List.{List, [], _∷_}
 use mathlib.Core.Bool.{Bool, true, false, cond}
 use mathlib.Core.Logic.{_⊎_, inl, inr}
-use lib.ListN.{take, replicate}
+use lib.ListN.{take}
 use lib.Dec.{eqb}
 use Rattle.std.specs.declared.result.Result.{Result}
 use Rattle.std.specs.declared.result.Result.the-variants.{Ok, Err}
@@ -13,7 +13,7 @@ use Rattle.base.specs.declared.number.BlockNo.{BlockNo}
 use Rattle.base.specs.declared.owner.Kind.the-variants.{File}
 use Rattle.base.specs.declared.owner.Handle.{Handle}
 use Rattle.base.specs.declared.refusal.Refusal.the-variants.{PowerGone}
-use Rattle.device.specs.Model.{Model, Block, In, Stands, put, Is, Kept, Settled, Cut}
+use Rattle.device.specs.Model.{Model, Block, In, Stands, put, Kept, Settled, Cut}
 use Rattle.device.specs.Effect.{puts, PutAt, accepted, broken, Altered}
 use Rattle.device.specs.declared.put.Put.{Put}
 use Rattle.device.specs.declared.fault.Synced.the-variants.{Settled as SettledAnswer}
@@ -25,7 +25,7 @@ use Rattle.rule.specs.Card.{Card, Ready, Plan, Opened, block, lost}
 use Rattle.rule.specs.Card as rule-of-card
 use Rattle.rule.specs.Reading as rule-of-reading
 use Rattle.rule.specs.Changing as rule-of-changing
-use Rattle.history.specs.Events.{Phase, closed, opened, surveyed, State, Event, opening, ending, path, read, create, write, sync, cut, Has, Still, Reads, Accepted, Broken, By-plan, Changes, By-device, Syncs, Opens, Ends, Step}
+use Rattle.history.specs.Events.{Phase, closed, opened, surveyed, State, Event, opening, ending, path, read, create, write, sync, cut, Has, Still, Reads, By-plan, Changes, By-device, Syncs, Opens, Ends}
 use Rattle.history.specs.History.{Formatted, Moment, History}
 use Rattle.history.specs.Example.{small, alto, bass, ABC, events, story, It-happens}
 
@@ -34,8 +34,9 @@ use Rattle.history.specs.Example.{small, alto, bass, ABC, events, story, It-ha
 puts-cases : (f : ℕ → Block) (ws : List Put) (i : ℕ) → (puts f ws i ≡ f i) ⊎ PutAt i (puts f ws i) ws
 puts-cases f [] i = inl refl
 puts-cases f (w ∷ ws) i = elim (puts-cases (put f (w .block .0) (w .bytes)) ws i) [
-    inr p ↦ inr (inr p)
-  | inl e ↦ go (eqb i (w .block .0)) refl e ]
+  | inr p ↦ inr (inr p)
+  | inl e ↦ go (eqb i (w .block .0)) refl e
+]
   where
     go : (t : Bool) → eqb i (w .block .0) ≡ t → puts f (w ∷ ws) i ≡ cond t (w .bytes) (f i) → (puts f (w ∷ ws) i ≡ f i) ⊎ PutAt i (puts f (w ∷ ws) i) (w ∷ ws)
     go true q e = inr (inl (eqb-true i (w .block .0) q, e))
@@ -68,10 +69,12 @@ alone f m = record { count = m .count; power = true; shown = f; may = λ i. f i 
 
 written-joined : (on : Bool) (ws : List Put) (m : Model) (i : ℕ) (z : Block) → Stands (written on ws m) i z → Stands m i z ⊎ PutAt i z ws
 written-joined on ws m i z st = elim (in-cases z (puts (m .shown) ws i) (m .may i) st) [
-    inr old ↦ inl old
+  | inr old ↦ inl old
   | inl e ↦ elim (puts-cases (m .shown) ws i) [
-      inl q ↦ inl (subst (Stands m i) (sym (e ∙ q)) (m .among i))
-    | inr p ↦ inr (subst (λ (x : Block). PutAt i x ws) (sym e) p) ] ]
+    | inl q ↦ inl (subst (Stands m i) (sym (e ∙ q)) (m .among i))
+    | inr p ↦ inr (subst (λ (x : Block). PutAt i x ws) (sym e) p)
+  ]
+]
 
 written-altered : (ws : List Put) (m : Model) → Altered accepted ws m (written (m .power) ws m)
 written-altered ws m = record { count = refl; power = refl; shows = refl; joined = written-joined (m .power) ws m }
@@ -297,20 +300,43 @@ moments =
 
 run : History small s0 moments
 unfolding moments s12 s9 s8 s7 s6 s4 s3 s2 s1 s0
-run =
-    ( ( ( ( ( ( ( ( ( ( ( ( start
-    , opens-step s0 refl)
-    , ends-step s1 (rule-of-card.opened (s0 .device .count) (s0 .device .shown)) refl)
-    , changes-step (rule-of-changing.create File root alto) s2 (memory (s2 .card)) on2)
-    , changes-step (rule-of-changing.write (handle 1 2) 0 ABC) s3 (memory (s3 .card)) on3)
-    , syncs-step)
-    , breaks-step (block 4) (rule-of-changing.create File root bass) s5 (memory (s5 .card)) on5)
-    , (cut-alone (s6 .device) (s6 .device .shown) (s6 .device .among), refl))
-    , opens-step s7 refl)
-    , ends-step s8 (rule-of-card.opened (s7 .device .count) (s7 .device .shown)) refl)
-    , (0, reads-step _ (rule-of-reading.path alto) s9 (memory (s9 .card)) on9))
-    , reads-step PowerGone (rule-of-reading.read (handle 1 2) 0 496) s9 (memory (s9 .card)) on9)
-    , changes-step (rule-of-changing.create File root bass) s9 (memory (s9 .card)) on9)
+run = (
+  (
+    (
+      (
+        (
+          (
+            (
+              (
+                (
+                  (
+                    (
+                      (
+                        start,
+                        opens-step s0 refl,
+                      ),
+                      ends-step s1 (rule-of-card.opened (s0 .device .count) (s0 .device .shown)) refl,
+                    ),
+                    changes-step (rule-of-changing.create File root alto) s2 (memory (s2 .card)) on2,
+                  ),
+                  changes-step (rule-of-changing.write (handle 1 2) 0 ABC) s3 (memory (s3 .card)) on3,
+                ),
+                syncs-step,
+              ),
+              breaks-step (block 4) (rule-of-changing.create File root bass) s5 (memory (s5 .card)) on5,
+            ),
+            (cut-alone (s6 .device) (s6 .device .shown) (s6 .device .among), refl),
+          ),
+          opens-step s7 refl,
+        ),
+        ends-step s8 (rule-of-card.opened (s7 .device .count) (s7 .device .shown)) refl,
+      ),
+      (0, reads-step _ (rule-of-reading.path alto) s9 (memory (s9 .card)) on9),
+    ),
+    reads-step PowerGone (rule-of-reading.read (handle 1 2) 0 496) s9 (memory (s9 .card)) on9,
+  ),
+  changes-step (rule-of-changing.create File root bass) s9 (memory (s9 .card)) on9,
+)
 
 told : events moments ≡ story
 unfolding moments s12 s9 s8 s7 s6 s5 s4 s3 s2 s1 s0 formatted _>>=_ check demand parse encode entry-of highest-in rule-of-reading.fits rule-of-reading.kind-is rule-of-reading.reading rule-of-reading.named rule-of-reading.step rule-of-reading.at-component rule-of-reading.all-named rule-of-reading.walk rule-of-reading.path rule-of-reading.read rule-of-changing.changing rule-of-changing.create rule-of-changing.write rule-of-changing.format rule-of-card.opening rule-of-card.surveyed rule-of-changing.placed rule-of-changing.untaken rule-of-changing.replaces rule-of-changing.appends

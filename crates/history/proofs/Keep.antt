@@ -1,10 +1,10 @@
 -- A call that does not touch the file keeps it on its path.
-use Prim.Native.Nat.{ℕ, zero, suc, _≤_, _<_}
+use Prim.Native.Nat.{ℕ, suc, _≤_, _<_}
 use mathlib.Core.Path.{_≡_, refl, sym, ap, subst, _∙_}
-use mathlib.Core.List.{List, [], _∷_, _++_}
+use mathlib.Core.List.{List, [], _∷_}
 use mathlib.Core.Logic.{_⊎_, inl, inr}
 use native.Mathlib.Omega.{arith}
-use lib.ListN.{length, getD, set}
+use lib.ListN.{getD, set}
 use Rattle.std.specs.declared.option.Option.{Option}
 use Rattle.std.specs.declared.option.Option.the-variants.{Some, None}
 use Rattle.std.proofs.shelf.Tests.{cases-eq}
@@ -13,17 +13,16 @@ use Rattle.base.specs.declared.owner.Kind.the-variants.{File, Folder}
 use Rattle.base.specs.declared.owner.Handle.{Handle}
 use Rattle.base.specs.declared.owner.Back.{Back}
 use Rattle.device.specs.Model.{Model}
-use Rattle.layout.specs.Format.{Name, Cell, Geometry, handle, back, Slot, Content, slotted, file-body, folder-body, Entry, entry, entry-of}
+use Rattle.layout.specs.Format.{Name, Cell, Geometry, handle, back, Slot, Content, slotted, file-body, folder-body, entry, entry-of}
 use Rattle.layout.specs.Identities.{told}
 use Rattle.rule.specs.Agree.{View, count, number, same-kind}
-use Rattle.rule.specs.Meaning.{Fits, Sound, Reached, under, Before, Finds}
-use Rattle.rule.specs.Calls.{SoundAt}
+use Rattle.rule.specs.Meaning.{Sound, Reached, under, Before, Finds}
 use Rattle.rule.proofs.Steps.{clash}
 use Rattle.history.specs.History.{Deed}
 use Rattle.history.specs.Laws.{Touches}
-use Rattle.history.proofs.Parsed.{apart, slotted-same, folder-back, folder-cells, file-back, entry-child, entry-name, no-such-entry, past-entry}
-use Rattle.history.proofs.Stands.{May, view, may-shown, told-own, told-entry, set-cases}
-use Rattle.history.proofs.Sorts.{Hollow, FreshSlot, SlotAgain, SlotBlanked, FreshBody, FileAgain, FolderAgain, Allowed, fresh-slot, slot-again, slot-blanked, fresh-body, file-again, folder-again}
+use Rattle.history.proofs.Parsed.{apart, slotted-same, folder-back, folder-cells, file-back, entry-child, entry-name, no-such-entry}
+use Rattle.history.proofs.Stands.{May, view, may-shown, told-entry, set-cases}
+use Rattle.history.proofs.Sorts.{Hollow, FreshSlot, SlotAgain, SlotBlanked, Allowed, fresh-slot, slot-again, slot-blanked, fresh-body, file-again, folder-again}
 use Rattle.history.proofs.Trail.{leaf-in, leaf-some, FolderSlot, ChildSlot, Link, FileKept, LeafKept, Trail, folder-slot, link-sound, link-finds, link-held, file-fits}
 
 kinds-apart : {X : Type 0} {k : Kind} → k ≡ Folder → k ≡ File → X
@@ -69,13 +68,18 @@ module _ (g : Geometry) (m : Model) (high : ℕ) (counted : (b : ℕ) (y : Conte
     slot-kept y (slot-again p) =
         let ok = folder-slot g m f a c l (p .old) (again-stood f y p) in
         elim (p .sort) [
-            inl q ↦ (p .slot, p .content, record {
+          | inl q ↦ (
+            p .slot,
+            p .content,
+            record {
               kind = q .1;
               same = p .own ∙ ok .same;
               below = (let z = q .2 in let w = ok .below in omega arith);
               numbers = λ j low. q .3 j (let w = ok .below in omega arith) ∙ ok .numbers j low;
-            })
-          | inr q ↦ kinds-apart (ok .kind) (q .0) ]
+            },
+          )
+          | inr q ↦ kinds-apart (ok .kind) (q .0)
+        ]
     slot-kept y (slot-blanked p) =
         let ok = folder-slot g m f a c l (p .old) (blanked-stood f y p) in
         absurd (subst (λ (h : Handle). Hollow g v h) (blanked-handle f y p (ok .same)) (p .hollow) (l .leaf) (l .place) (a, c, link-sound g m f a c l))
@@ -129,10 +133,11 @@ module _ (g : Geometry) (m : Model) (high : ℕ) (counted : (b : ℕ) (y : Conte
         known = ap (λ (es : List Cell). entry-of g (getD es (l .place) [])) (folder-cells (sym (p .stood) ∙ b .1)) ∙ b .2
 
         other : (p .place ≡ l .place → ⊥) → (es : List Cell) × (y ≡ folder-body (back f (l .leaf)) es) × (entry-of g (getD es (l .place) []) ≡ entry a c)
-        other ne =
-            ( set (p .cells) (p .place) (p .new)
-            , p .content ∙ ap (λ (k : Back). folder-body k (set (p .cells) (p .place) (p .new))) owner
-            , elim (set-cases (p .cells) (p .place) (l .place) (p .new)) [ inl w ↦ absurd (ne (w .0)) | inr w ↦ ap (entry-of g) w ∙ known ] )
+        other ne = (
+          set (p .cells) (p .place) (p .new),
+          p .content ∙ ap (λ (k : Back). folder-body k (set (p .cells) (p .place) (p .new))) owner,
+          elim (set-cases (p .cells) (p .place) (l .place) (p .new)) [ inl w ↦ absurd (ne (w .0)) | inr w ↦ ap (entry-of g) w ∙ known ],
+        )
 
         sound-there : p .place ≡ l .place → Sound g v (p .handle) (p .leaf) (p .place) a c
         sound-there same =
@@ -142,10 +147,11 @@ module _ (g : Geometry) (m : Model) (high : ℕ) (counted : (b : ℕ) (y : Conte
 
         here : p .place ≡ l .place → ⊥
         here same = elim (p .sort) [
-            inl q ↦ q .4 (a, c, sound-there same)
+          | inl q ↦ q .4 (a, c, sound-there same)
           | inr q ↦
               (let child : q .1 ≡ c = entry-child (sym (q .3) ∙ ap (λ (k : ℕ). entry-of g (getD (p .cells) k [])) same ∙ known) in
-              stay (subst (λ (h : Handle). Hollow g v h) child (q .4)) (subst (λ (h : Handle). Touches e h) child (q .5))) ]
+              stay (subst (λ (h : Handle). Hollow g v h) child (q .4)) (subst (λ (h : Handle). Touches e h) child (q .5)))
+        ]
 
     -- an earlier entry of the name: it stood before
     earlier-stood : (j q : ℕ) (es : List Cell) (d : Handle) → j ≤ l .leaf → Allowed g v high e (l .body j) (folder-body (back f j) es) → entry-of g (getD es q []) ≡ entry a d →
@@ -155,17 +161,19 @@ module _ (g : Geometry) (m : Model) (high : ℕ) (counted : (b : ℕ) (y : Conte
     earlier-stood j q es d low (slot-blanked p) here = apart refl (p .content) (λ z. omega arith)
     earlier-stood j q es d low (file-again p) here = apart refl (p .content) (λ z. omega arith)
     earlier-stood j q es d low (fresh-body p) here = elim (p .sort) [
-        inl w ↦ apart refl (w .3) (λ z. omega arith)
+      | inl w ↦ apart refl (w .3) (λ z. omega arith)
       | inr w ↦ absurd
           (let owner : back f j ≡ back (w .0) (count (w .1)) = folder-back (w .4) in
           let same : w .0 ≡ f = sym (ap (λ (k : Back). k .owner) owner) in
           let leaf : j ≡ count (w .1) = ap (λ (k : Back). k .leaf .0) owner in
           let holds : v (suc (f .slot .0)) ≡ slotted (w .1) = subst (λ (h : Handle). v (suc (h .slot .0)) ≡ slotted (w .1)) same (w .3 .holds) in
           let ok = folder-slot g m f a c l (w .1) (stood (suc (f .slot .0)) (slotted (w .1)) holds) in
-          let z = ok .below in omega arith) ]
+          let z = ok .below in omega arith)
+    ]
     earlier-stood j q es d low (folder-again p) here = elim (set-cases (p .cells) (p .place) q (p .new)) [
-        inr w ↦ (p .cells, old, ap (entry-of g) (sym w) ∙ there)
-      | inl w ↦ absurd (overwritten (ap (entry-of g) (sym (w .1)) ∙ there)) ]
+      | inr w ↦ (p .cells, old, ap (entry-of g) (sym w) ∙ there)
+      | inl w ↦ absurd (overwritten (ap (entry-of g) (sym (w .1)) ∙ there))
+    ]
       where
         owner : back f j ≡ back (p .handle) (p .leaf)
         owner = folder-back (p .content)
@@ -178,10 +186,11 @@ module _ (g : Geometry) (m : Model) (high : ℕ) (counted : (b : ℕ) (y : Conte
 
         overwritten : entry-of g (p .new) ≡ entry a d → ⊥
         overwritten w = elim (p .sort) [
-            inl u ↦
+          | inl u ↦
               (let own : Sound g v (p .handle) (l .leaf) (l .place) a c = subst (λ (h : Handle). Sound g v h (l .leaf) (l .place) a c) (ap (λ (k : Back). k .owner) owner) (link-sound g m f a c l) in
               u .3 (l .leaf) (l .place) c (subst (λ (k : Name). Sound g v (p .handle) (l .leaf) (l .place) k c) (sym (entry-name (sym (u .2) ∙ w))) own))
-          | inr u ↦ no-such-entry (u .2) w ]
+          | inr u ↦ no-such-entry (u .2) w
+        ]
 
     -- and its child's slot stood before, or is of another identity
     earlier-kept : (j q : ℕ) (es : List Cell) (d : Handle) → Before j q (l .leaf) (l .place) → May g m (l .body j) (folder-body (back f j) es) → entry-of g (getD es q []) ≡ entry a d →
@@ -194,11 +203,12 @@ module _ (g : Geometry) (m : Model) (high : ℕ) (counted : (b : ℕ) (y : Conte
     earlier-kept j q es d before i here inside r (slot-again p) same parent =
         let slots : p .slot ≡ r = sym (slotted-same (p .content)) in
         l .earlier j q es d before i here inside (p .old) (again-stood d (slotted r) p)
-            (sym (p .own) ∙ ap (λ (k : Slot). k .identity) slots ∙ same) (sym (p .parent) ∙ ap (λ (k : Slot). k .parent) slots ∙ parent)
+        (sym (p .own) ∙ ap (λ (k : Slot). k .identity) slots ∙ same) (sym (p .parent) ∙ ap (λ (k : Slot). k .parent) slots ∙ parent)
     earlier-kept j q es d before i here inside r (slot-blanked p) same parent = apart refl (p .content) (λ z. omega arith)
     earlier-kept j q es d before i here inside r (fresh-body p) same parent = elim (p .sort) [
-        inl w ↦ apart refl (w .3) (λ z. omega arith)
-      | inr w ↦ apart refl (w .4) (λ z. omega arith) ]
+      | inl w ↦ apart refl (w .3) (λ z. omega arith)
+      | inr w ↦ apart refl (w .4) (λ z. omega arith)
+    ]
     earlier-kept j q es d before i here inside r (file-again p) same parent = apart refl (p .content) (λ z. omega arith)
     earlier-kept j q es d before i here inside r (folder-again p) same parent = apart refl (p .content) (λ z. omega arith)
 
@@ -214,10 +224,11 @@ module _ (g : Geometry) (m : Model) (high : ℕ) (counted : (b : ℕ) (y : Conte
       earlier = λ j q es d before i here inside r ir same parent.
           let low : j ≤ l .leaf = elim before [ inl w ↦ (omega arith) | inr w ↦ (omega arith) ] in
           let o : (fs : List Cell) × May g m (l .body j) (folder-body (back f j) fs) × (entry-of g (getD fs q []) ≡ entry a d) =
-              elim (join (l .body j) (folder-body (back f j) es) i) [ inl old ↦ (es, old, here) | inr new ↦ earlier-stood j q es d low new here ] in
+          elim (join (l .body j) (folder-body (back f j) es) i) [ inl old ↦ (es, old, here) | inr new ↦ earlier-stood j q es d low new here ] in
           elim (join (suc (d .slot .0)) (slotted r) ir) [
-              inl old ↦ l .earlier j q (o .0) d before (o .1) (o .2) inside r old same parent
-            | inr new ↦ earlier-kept j q (o .0) d before (o .1) (o .2) inside r new same parent ];
+            | inl old ↦ l .earlier j q (o .0) d before (o .1) (o .2) inside r old same parent
+            | inr new ↦ earlier-kept j q (o .0) d before (o .1) (o .2) inside r new same parent
+          ];
       child-inside = l .child-inside;
       childs = λ y i. elim (join (suc (c .slot .0)) y i) [ inl old ↦ l .childs y old | inr new ↦ child-kept y new ];
     }
@@ -229,8 +240,9 @@ module _ (g : Geometry) (m : Model) (high : ℕ) (counted : (b : ℕ) (y : Conte
         let old : p .old ≡ r = slotted-same (fk .slots (slotted (p .old)) (again-stood h y p)) in
         let same : p .handle ≡ h = handle-same (p .handle) h (let z = p .block in omega arith) (sym (p .fits .same) ∙ ap (λ (k : Slot). k .identity) old ∙ fk .same) in
         elim (p .sort) [
-            inl q ↦ kinds-apart (q .0) (ap (λ (k : Slot). k .kind) old ∙ fk .kind)
-          | inr q ↦ absurd (quiet (subst (λ (k : Handle). Touches e k) same (q .1))) ]
+          | inl q ↦ kinds-apart (q .0) (ap (λ (k : Slot). k .kind) old ∙ fk .kind)
+          | inr q ↦ absurd (quiet (subst (λ (k : Handle). Touches e k) same (q .1)))
+        ]
     file-slot-kept y (slot-blanked p) =
         let old : p .old ≡ r = slotted-same (fk .slots (slotted (p .old)) (blanked-stood h y p)) in
         absurd (quiet (subst (λ (k : Handle). Touches e k) (blanked-handle h y p (ap (λ (k : Slot). k .identity) old ∙ fk .same)) (p .touched)))
@@ -253,8 +265,9 @@ module _ (g : Geometry) (m : Model) (high : ℕ) (counted : (b : ℕ) (y : Conte
     no-leaf k b y (slot-again p) x w = apart w (p .content) (λ z. omega arith)
     no-leaf k b y (slot-blanked p) x w = apart w (p .content) (λ z. omega arith)
     no-leaf k b y (fresh-body p) x w = elim (p .sort) [
-        inl u ↦ quiet (subst (λ (d : Handle). Touches e d) (ap (λ (b : Back). b .owner) (file-back (sym (u .3) ∙ w))) (u .4))
-      | inr u ↦ apart w (u .4) (λ z. omega arith) ]
+      | inl u ↦ quiet (subst (λ (d : Handle). Touches e d) (ap (λ (b : Back). b .owner) (file-back (sym (u .3) ∙ w))) (u .4))
+      | inr u ↦ apart w (u .4) (λ z. omega arith)
+    ]
     no-leaf k b y (file-again p) x w = quiet (subst (λ (d : Handle). Touches e d) (ap (λ (b : Back). b .owner) (file-back (sym (p .content) ∙ w))) (p .touched))
     no-leaf k b y (folder-again p) x w = apart w (p .content) (λ z. omega arith)
 
@@ -264,7 +277,11 @@ module _ (g : Geometry) (m : Model) (high : ℕ) (counted : (b : ℕ) (y : Conte
     good-kept k x low here y (slot-again p) = let z = fk .region k low in let w = again-low _ y p in omega arith
     good-kept k x low here y (slot-blanked p) = let z = fk .region k low in let w = blanked-low _ y p in omega arith
     good-kept k x low here y (fresh-body p) = p .free .unheld (record {
-      owner = h; leaf = k; reached = rc; good = record { slot = r; fits = file-fits g m h r fk; below = low; body = inl (x, fk .kind, here) }; here = refl;
+      owner = h;
+      leaf = k;
+      reached = rc;
+      good = record { slot = r; fits = file-fits g m h r fk; below = low; body = inl (x, fk .kind, here) };
+      here = refl;
     })
     good-kept k x low here y (file-again p) = quiet (subst (λ (d : Handle). Touches e d) (ap (λ (b : Back). b .owner) (file-back (sym (p .stood) ∙ here))) (p .touched))
     good-kept k x low here y (folder-again p) = apart (p .stood) here (λ z. omega arith)
@@ -284,7 +301,8 @@ module _ (g : Geometry) (m : Model) (high : ℕ) (counted : (b : ℕ) (y : Conte
 
     pub trail-kept : (f : Handle) (ns : List Name) → Reached g v f → Trail g m f ns h r → Trail g n f ns h r
     trail-kept f [] rc t = (t .0, file-kept h r (t .1) (subst (λ (k : Handle). Reached g v k) (t .0) rc) quiet)
-    trail-kept f (a ∷ ns) rc t =
-        ( t .0
-        , link-kept f a (t .0) (t .1) rc (stays-child (t .0) ns (t .2))
-        , trail-kept (t .0) ns (under rc (link-sound g m f a (t .0) (t .1))) (t .2) )
+    trail-kept f (a ∷ ns) rc t = (
+      t .0,
+      link-kept f a (t .0) (t .1) rc (stays-child (t .0) ns (t .2)),
+      trail-kept (t .0) ns (under rc (link-sound g m f a (t .0) (t .1))) (t .2),
+    )

@@ -1,7 +1,7 @@
 -- What a read answers rests on the file's slot and on what stands for the leaf.
-use Prim.Native.Nat.{ℕ, zero, suc, _≤_, _<_}
-use mathlib.Core.Path.{_≡_, refl, sym, ap, subst, _∙_}
-use mathlib.Core.List.{List, [], _∷_, _++_}
+use Prim.Native.Nat.{ℕ, _<_}
+use mathlib.Core.Path.{_≡_, refl, sym, ap, _∙_}
+use mathlib.Core.List.{List}
 use mathlib.Core.Bool.{Bool, true, false, cond, _&&_}
 use lib.Dec.{leb, ltb}
 use Rattle.std.proofs.shelf.Tests.{ltb-true}
@@ -10,14 +10,13 @@ use Rattle.std.specs.declared.option.Option.the-variants.{Some, None}
 use Rattle.std.specs.declared.result.Result.{Result}
 use Rattle.std.specs.declared.result.Result.the-variants.{Ok, Err}
 use Rattle.base.specs.declared.owner.Kind.{Kind}
-use Rattle.base.specs.declared.owner.Kind.the-variants.{File, Folder}
+use Rattle.base.specs.declared.owner.Kind.the-variants.{File}
 use Rattle.base.specs.declared.owner.Handle.{Handle}
 use Rattle.base.specs.declared.owner.Back.{Back}
 use Rattle.base.specs.declared.refusal.Refusal.{Refusal}
 use Rattle.base.specs.declared.refusal.Refusal.the-variants.{NoSuchLeaf, LeafNotGood, BadLength}
-use Rattle.base.specs.declared.refusal.PathRefusal.{PathRefusal}
-use Rattle.layout.specs.Format.{Name, Geometry, back, Slot, Content, blank, cover, slotted, file-body, folder-body, ill-formed}
-use Rattle.rule.specs.Agree.{Shown, View, seen, count, number, names, good, same-back, root}
+use Rattle.layout.specs.Format.{Geometry, back, Slot, Content, blank, cover, slotted, file-body, folder-body, ill-formed}
+use Rattle.rule.specs.Agree.{Shown, seen, count, number, names, good, same-back}
 use Rattle.rule.specs.Check.{Answer, _>>=_, check, demand}
 use Rattle.rule.specs.Card.{block}
 use Rattle.rule.specs.Reading.{reading, read, bytes-in}
@@ -28,9 +27,9 @@ use Rattle.history.proofs.Trail.{leaf-in}
 -- what a read answers, by the slot and what stands for the leaf
 leaf-answer : Slot → ℕ → ℕ → Option (List ℕ) → Answer (List ℕ)
 leaf-answer r k room o = do
-    _ ← check (leb 496 room) (BadLength room)
-    _ ← check (ltb k (count r)) (NoSuchLeaf (record { 0 = k }))
-    demand o (LeafNotGood (block (number r k)))
+  _ ← check (leb 496 room) (BadLength room)
+  _ ← check (ltb k (count r)) (NoSuchLeaf (record { 0 = k }))
+  demand o (LeafNotGood (block (number r k)))
 
 bind-same : {A B E : Type 0} (e : Result A E) (k l : A → Result B E) → ((a : A) → k a ≡ l a) → (e >>= k) ≡ (e >>= l)
 unfolding _>>=_

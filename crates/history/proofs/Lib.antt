@@ -1,4 +1,4 @@
-pub mod Trips
+pub mod Written
 pub mod Parsed
 pub mod Log
 pub mod Stands

@@ -1,35 +1,32 @@
 -- What a settled sync keeps, over whole histories.
-use Prim.Native.Nat.{ℕ, zero, suc, _≤_, _<_}
+use Prim.Native.Nat.{ℕ, suc, _<_}
 use mathlib.Core.Path.{_≡_, refl, sym, ap, subst, _∙_}
 use mathlib.Core.List.{List, [], _∷_, _++_}
-use mathlib.Core.Bool.{Bool, true, false, cond}
+use mathlib.Core.Bool.{Bool, false, cond}
 use mathlib.Core.Logic.{_⊎_, inl, inr}
 use native.Mathlib.Omega.{arith}
 use lib.ListN.{length}
 use Rattle.std.specs.declared.option.Option.{Option}
-use Rattle.std.specs.declared.result.Result.{Result}
 use Rattle.std.specs.declared.result.Result.the-variants.{Ok, Err}
 use Rattle.base.specs.declared.owner.Kind.the-variants.{File}
 use Rattle.base.specs.declared.owner.Handle.{Handle}
-use Rattle.base.specs.declared.refusal.Refusal.the-variants.{SyncUnsure, PowerGone}
-use Rattle.device.specs.Model.{Model, Block, Stands, OnlyShown, Settled}
+use Rattle.device.specs.Model.{Model, OnlyShown}
 use Rattle.device.specs.Answers.{SyncAnswer}
 use Rattle.device.specs.declared.fault.Synced.{Synced}
 use Rattle.device.specs.declared.fault.Synced.the-variants.{Settled as SettledAnswer, Unsure}
 use Rattle.layout.specs.Format.{Name, Geometry, back, Slot, Content, slotted}
 use Rattle.layout.specs.Identities.{told}
-use Rattle.rule.specs.Agree.{View, seen, count, number, root}
-use Rattle.rule.specs.Check.{Answer}
+use Rattle.rule.specs.Agree.{count, number, root}
 use Rattle.rule.specs.Card.{Ready}
 use Rattle.rule.specs.Reading.{components, Status}
 use Rattle.rule.specs.Changing.{synced}
-use Rattle.rule.specs.Meaning.{Fits, Reached, the-root}
+use Rattle.rule.specs.Meaning.{Fits, the-root}
 use Rattle.rule.specs.Readings.{Leads}
 use Rattle.rule.proofs.Plans.{clash-ok}
 use Rattle.rule.proofs.Answered.{path-means, status-means}
-use Rattle.history.specs.Events.{State, Event, sync, By-device, Syncs}
-use Rattle.history.specs.History.{Moment, present, History, Deed, nothing, gives, maker}
-use Rattle.history.specs.Laws.{after, Touches, Untouched, FileAt, SameFile, Settled-files-stay}
+use Rattle.history.specs.Events.{State, sync, By-device}
+use Rattle.history.specs.History.{Moment, present, History, Deed, gives, maker}
+use Rattle.history.specs.Laws.{after, Touches, Untouched, Settled-files-stay}
 use Rattle.history.proofs.Log.{did}
 use Rattle.history.proofs.Stands.{May, view, may-shown, may-fewer, told-own, Inv}
 use Rattle.history.proofs.Sorts.{Allowed}
@@ -76,9 +73,10 @@ module _ (g : Geometry) (s : State) (ms : List Moment) (iv : Inv g s ms (present
 
   move-stays : (Touches (did s m ms) h → ⊥) → Quiet g s ms m ⊎ Busy g s ms m → Stay g u (m .state .device) ns h r
   move-stays calm (inl q) = sub-stays g u (m .state .device) (may-fewer g u (m .state .device) (q .fewer)) ns h r tr
-  move-stays calm (inr w) =
-      ( trail-kept g u (w .memory .highest) (w .counted) (w .doing) (m .state .device) join h r quiet root ns the-root tr
-      , λ k a low lk. leaf-kept g u (w .memory .highest) (w .counted) (w .doing) (m .state .device) join h r file (trail-reached g u root ns h r the-root tr) quiet k a low lk )
+  move-stays calm (inr w) = (
+    trail-kept g u (w .memory .highest) (w .counted) (w .doing) (m .state .device) join h r quiet root ns the-root tr,
+    λ k a low lk. leaf-kept g u (w .memory .highest) (w .counted) (w .doing) (m .state .device) join h r file (trail-reached g u root ns h r the-root tr) quiet k a low lk,
+  )
     where
       quiet : Touches (w .doing) h → ⊥
       quiet t = calm (subst (λ (d : Deed). Touches d h) (sym (w .done)) t)
@@ -126,10 +124,11 @@ module _ (g : Geometry) (s t : State) (older : List Moment) (ns : List Name) (h 
       let iv = history-inv g s (newer ++ base) (hist .0) in
       let mv = moves g s (newer ++ base) iv (m .state) (m .event) (hist .1) in
       let stay = move-stays g s (newer ++ base) iv m ns h r (b .0) (λ touched. un .1 touched (b .2)) mv in
-      let ng = not-given g s (newer ++ base) iv m ns h r (b .0) mv in
-      ( stay .0
-      , λ k low. stay .1 k (leaf-in (back h k) (view g (t .device) (number r k))) low (b .1 k low)
-      , ap (λ (x : Bool). cond x (suc (length (newer ++ base))) (maker s (newer ++ base) h)) ng ∙ b .2 )
+      let ng = not-given g s (newer ++ base) iv m ns h r (b .0) mv in (
+        stay .0,
+        λ k low. stay .1 k (leaf-in (back h k) (view g (t .device) (number r k))) low (b .1 k low),
+        ap (λ (x : Bool). cond x (suc (length (newer ++ base))) (maker s (newer ++ base) h)) ng ∙ b .2,
+      )
 
 pub files-stay : Settled-files-stay
 files-stay g s t older newer p h hist at un =
@@ -139,9 +138,10 @@ files-stay g s t older newer p h hist at un =
     let kind : r .kind ≡ File = ap (λ (x : Status). x .kind) (sym (f .2)) ∙ at .kind in
     let b = later g s t older (components p) h r (a .1) (f .1) kind newer hist un in
     let n = present s (newer ++ after (sync (Ok tt)) t older) .device in
-    let fits = file-fits g n h r (trail-file g n root (components p) h r (b .0)) in
-    ( record {
+    let fits = file-fits g n h r (trail-file g n root (components p) h r (b .0)) in (
+      record {
         path = path-means p g (n .shown) h .1 (a .0, trail-way g n root (components p) h r (b .0));
         leaves = λ k room. read-same h k room g (n .shown) (t .device .shown) r fits (f .1) kind (λ low. b .1 k low (view g n (number r k)) (may-shown g n (number r k) (view g n (number r k)) refl));
-      }
-    , b .2 )
+      },
+      b .2,
+    )

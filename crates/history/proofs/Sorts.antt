@@ -1,13 +1,12 @@
 -- The sorts of blocks that a changing call puts, with what the rule says of each.
-use Prim.Native.Nat.{ℕ, zero, suc, _≤_, _<_}
-use mathlib.Core.Path.{_≡_, refl, sym, ap, subst, _∙_}
-use mathlib.Core.List.{List, [], _∷_, _++_}
-use mathlib.Core.Logic.{_⊎_, inl, inr}
+use Prim.Native.Nat.{ℕ, suc, _≤_, _<_}
+use mathlib.Core.Path.{_≡_}
+use mathlib.Core.List.{List, []}
+use mathlib.Core.Logic.{_⊎_}
 use lib.ListN.{length, getD, set}
-use Rattle.base.specs.declared.owner.Kind.{Kind}
 use Rattle.base.specs.declared.owner.Kind.the-variants.{File, Folder}
 use Rattle.base.specs.declared.owner.Handle.{Handle}
-use Rattle.device.specs.Model.{Model, Block, Stands}
+use Rattle.device.specs.Model.{Block}
 use Rattle.layout.specs.Format.{Name, Cell, Geometry, back, Slot, Content, blank, slotted, file-body, folder-body, entry, no-entry, parse, entry-of}
 use Rattle.layout.specs.Identities.{told}
 use Rattle.rule.specs.Agree.{View, count, number}
@@ -40,7 +39,7 @@ pub record SlotAgain (g : Geometry) (v : View) (d : Deed) (b : ℕ) (y : Content
   pub own : slot .identity ≡ old .identity
   pub parent : slot .parent ≡ old .parent
   pub sort : ((old .kind ≡ Folder) × (slot .kind ≡ Folder) × (count old ≤ count slot) × ((j : ℕ) → j < count old → number slot j ≡ number old j))
-           ⊎ ((old .kind ≡ File) × Touches d handle)
+      ⊎ ((old .kind ≡ File) × Touches d handle)
 
 pub record SlotBlanked (g : Geometry) (v : View) (d : Deed) (b : ℕ) (y : Content) : Type 0 where
   pub handle : Handle
@@ -55,7 +54,7 @@ pub record SlotBlanked (g : Geometry) (v : View) (d : Deed) (b : ℕ) (y : Conte
 pub record FreshBody (g : Geometry) (v : View) (d : Deed) (b : ℕ) (y : Content) : Type 0 where
   pub free : FreeBody g v b
   pub sort : ((h : Handle) × (k : ℕ) × (x : List ℕ) × (y ≡ file-body (back h k) x) × Touches d h)
-           ⊎ ((f : Handle) × (r : Slot) × (es : List Cell) × Fits g v f r × (y ≡ folder-body (back f (count r)) es))
+      ⊎ ((f : Handle) × (r : Slot) × (es : List Cell) × Fits g v f r × (y ≡ folder-body (back f (count r)) es))
 
 pub record FileAgain (g : Geometry) (v : View) (d : Deed) (b : ℕ) (y : Content) : Type 0 where
   pub handle : Handle
@@ -77,7 +76,7 @@ pub record FolderAgain (g : Geometry) (v : View) (d : Deed) (b : ℕ) (y : Conte
   pub new : Cell
   pub content : y ≡ folder-body (back handle leaf) (set cells place new)
   pub sort : ((n : Name) × (c : Handle) × (entry-of g new ≡ entry n c) × ((j q : ℕ) (a : Handle) → Sound g v handle j q n a → ⊥) × (SoundAt g v handle leaf place → ⊥))
-           ⊎ ((n : Name) × (c : Handle) × (entry-of g new ≡ no-entry) × (entry-of g (getD cells place []) ≡ entry n c) × Hollow g v c × Touches d c)
+      ⊎ ((n : Name) × (c : Handle) × (entry-of g new ≡ no-entry) × (entry-of g (getD cells place []) ≡ entry n c) × Hollow g v c × Touches d c)
 
 pub data Allowed (g : Geometry) (v : View) (high : ℕ) (d : Deed) (b : ℕ) (y : Content) : Type 0 where
   fresh-slot : FreshSlot g v high b y → Allowed g v high d b y

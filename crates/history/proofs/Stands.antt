@@ -1,23 +1,23 @@
 -- What holds of every content that may stand, at every point of a history.
-use Prim.Native.Nat.{ℕ, zero, suc, _≤_, _<_, max}
-use mathlib.Core.Path.{_≡_, refl, sym, ap, subst, _∙_}
-use mathlib.Core.List.{List, [], _∷_, _++_}
-use mathlib.Core.Bool.{Bool, true, false, cond}
+use Prim.Native.Nat.{ℕ, zero, suc, _≤_, _<_}
+use mathlib.Core.Path.{_≡_, refl, sym, ap, _∙_}
+use mathlib.Core.List.{List, [], _∷_}
+use mathlib.Core.Bool.{true, false}
 use mathlib.Core.Logic.{_⊎_, inl, inr}
 use native.Mathlib.Omega.{arith}
 use lib.ListN.{length, getD, set, replicate}
-use Rattle.std.specs.declared.result.Result.the-variants.{Ok, Err}
-use Rattle.base.specs.declared.owner.Kind.{Kind}
+use Rattle.std.specs.declared.result.Result.the-variants.{Ok}
+use Rattle.base.specs.declared.owner.Kind.the-variants.{Folder}
 use Rattle.base.specs.declared.owner.Handle.{Handle}
 use Rattle.base.specs.declared.owner.Back.{Back}
 use Rattle.device.specs.Model.{Model, Block, Stands, OnlyShown}
-use Rattle.layout.specs.Format.{Name, Cell, Geometry, back, Slot, Content, blank, cover, slotted, file-body, folder-body, ill-formed, Entry, entry, no-entry, blank-cell, cover-of, parse, entry-of}
+use Rattle.layout.specs.Format.{Name, Cell, Geometry, Slot, Content, blank, cover, slotted, file-body, folder-body, ill-formed, Entry, entry, no-entry, blank-cell, in-limits, cover-of, parse, entry-of}
 use Rattle.layout.specs.Identities.{entry-told, highest-in, told}
-use Rattle.rule.specs.Agree.{View, seen}
-use Rattle.rule.specs.Card.{Card, Opened}
+use Rattle.rule.specs.Agree.{View, seen, root}
 use Rattle.rule.specs.Changing.{last-identity}
+use Rattle.rule.specs.Readings.{InRange}
 use Rattle.history.specs.Events.{Phase, closed, opened, surveyed, State}
-use Rattle.history.specs.History.{Moment, Deed, gives}
+use Rattle.history.specs.History.{Moment, gives}
 use Rattle.history.proofs.Parsed.{blank-entry, past-entry, no-such-entry}
 use Rattle.history.proofs.Log.{did, Wrote, MadeIn}
 
@@ -115,18 +115,26 @@ logged-more g s m ms ill-formed ng l = tt
 abbrev pub Carded : Geometry → Model → Phase → Type 0
 Carded g m closed = OnlyShown m
 Carded g m (opened o) = OnlyShown m × ((h : Geometry) → o .ready ≡ Ok h → (h ≡ g) × (o .highest ≤ last-identity) × ((b : ℕ) → 0 < b → b < o .next → told g (view g m b) ≤ o .highest))
-Carded g m (surveyed c) = (h : Geometry) → c .ready ≡ Ok h → (h ≡ g) × (c .highest ≤ last-identity) × ((b : ℕ) (y : Content) → May g m b y → told g y ≤ c .highest)
+Carded g m (surveyed c) = (h : Geometry) → c .ready ≡ Ok h → (h ≡ g) × (c .highest ≤ last-identity) × ((b : ℕ) (y : Content) → May g m b y → told g y ≤ c .highest) × InRange g c
 
 pub record Limits (g : Geometry) : Type 0 where
   pub low : 2 ≤ g .slots
   pub thin : g .slots ≤ 256
   pub bodies : suc (suc (g .slots)) ≤ g .blocks
   pub small : g .blocks ≤ 4096
+  pub within : in-limits (g .blocks) (g .slots) ≡ true
+
+-- a folder of identity 1 whose parent is itself
+pub record RootSlot (r : Slot) : Type 0 where
+  pub own : r .identity ≡ 1
+  pub kind : r .kind ≡ Folder
+  pub parent : r .parent ≡ root
 
 pub record Inv (g : Geometry) (s : State) (ms : List Moment) (t : State) : Type 0 where
   pub limits : Limits g
+  pub room : g .blocks ≤ t .device .count
   pub cover : (z : Block) → Stands (t .device) 0 z → cover-of z ≡ cover g
-  pub root : (y : Content) → May g (t .device) 1 y → (r : Slot) × (y ≡ slotted r) × (r .identity ≡ 1)
+  pub root : (y : Content) → May g (t .device) 1 y → (r : Slot) × (y ≡ slotted r) × RootSlot r
   pub whole : (b : ℕ) (z : Block) → b < g .blocks → Stands (t .device) b z → length z ≡ 512
   pub narrow : (b : ℕ) (y : Content) → May g (t .device) b y → told g y ≤ last-identity
   pub logged : (b : ℕ) (y : Content) → May g (t .device) b y → Logged g s ms y

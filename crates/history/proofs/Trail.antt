@@ -1,24 +1,24 @@
 -- A file on its path, said of every content that may stand: what holds at a settled sync, and what it gives of the shown blocks.
-use Prim.Native.Nat.{ℕ, zero, suc, _≤_, _<_}
+use Prim.Native.Nat.{ℕ, suc, _≤_, _<_}
 use mathlib.Core.Path.{_≡_, refl, sym, ap, subst, _∙_}
-use mathlib.Core.List.{List, [], _∷_, _++_}
+use mathlib.Core.List.{List, [], _∷_}
 use mathlib.Core.Bool.{Bool, true, false, cond}
-use mathlib.Core.Logic.{_⊎_, inl, inr}
+use mathlib.Core.Logic.{inl, inr}
 use native.Mathlib.Omega.{arith}
-use lib.ListN.{length, getD}
+use lib.ListN.{getD}
 use Rattle.std.specs.declared.option.Option.{Option}
 use Rattle.std.specs.declared.option.Option.the-variants.{Some, None}
-use Rattle.base.specs.declared.owner.Kind.{Kind}
 use Rattle.base.specs.declared.owner.Kind.the-variants.{File, Folder}
 use Rattle.base.specs.declared.owner.Handle.{Handle}
 use Rattle.base.specs.declared.owner.Back.{Back}
 use Rattle.device.specs.Model.{Model, OnlyShown}
 use Rattle.layout.specs.Format.{Name, Cell, Geometry, back, Slot, Content, blank, cover, slotted, file-body, folder-body, ill-formed, entry, entry-of}
 use Rattle.rule.specs.Agree.{View, count, number, same-back}
-use Rattle.rule.specs.Meaning.{Fits, Good, Sound, Reached, the-root, under, Before, Finds, Held}
+use Rattle.rule.specs.Meaning.{Fits, Sound, Reached, under, Before, Finds, Held}
 use Rattle.rule.specs.Readings.{Leads}
-use Rattle.rule.proofs.Steps.{back-true, back-same}
-use Rattle.history.proofs.Parsed.{slotted-same, slot-parsed, body-at, file-back, apart}
+use Rattle.rule.proofs.Steps.{back-true}
+use Rattle.rule.proofs.Formed.{slot-formed, body-at}
+use Rattle.history.proofs.Parsed.{slotted-same}
 use Rattle.history.proofs.Stands.{May, view, may-shown, only-may}
 
 -- the bytes that a content holds for a leaf, if it names it
@@ -125,7 +125,7 @@ module _ (g : Geometry) (m : Model) where
         let low : j ≤ l .leaf = elim before [ inl a ↦ (omega arith) | inr a ↦ (omega arith) ] in
         let body : v (l .body j) ≡ folder-body (back f j) (o .cells) = ap v (sym (ok .numbers j low)) ∙ o .body in
         l .earlier j q (o .cells) d before (may-shown g m (l .body j) (folder-body (back f j) (o .cells)) body) (o .here) (o .child-fits .inside)
-            (o .child) (may-shown g m (suc (d .slot .0)) (slotted (o .child)) (o .child-fits .holds)) (o .child-fits .same) (o .parent);
+        (o .child) (may-shown g m (suc (d .slot .0)) (slotted (o .child)) (o .child-fits .holds)) (o .child-fits .same) (o .parent);
   }
 
   pub link-held : (f : Handle) (n : Name) (c : Handle) (l : Link g m f n c) → Reached g v f → Held g v (l .body (l .leaf))
@@ -156,7 +156,7 @@ module _ (g : Geometry) (m : Model) where
 
   -- the numbers of a slot that is shown
   above : (h : Handle) (r : Slot) → Fits g v h r → (k : ℕ) → k < count r → g .slots < number r k
-  above h r f k l = body-at g (r .numbers) k (slot-parsed g (h .slot .0) (m .shown (suc (h .slot .0))) r (f .inside) (f .holds) .bodies) l .0
+  above h r f k l = body-at g (r .numbers) k (slot-formed g (suc (h .slot .0)) (m .shown (suc (h .slot .0))) r (f .holds) .numbers) l .0
 
   -- at a settled sync the shown blocks alone stand
   module _ (only : OnlyShown m) where

@@ -10,7 +10,7 @@ use Rattle.base.specs.declared.owner.Handle.{Handle}
 use Rattle.base.specs.declared.refusal.Refusal.the-variants.{PowerGone}
 use Rattle.layout.specs.Format.{Name}
 use Rattle.rule.specs.Check.{Answer}
-use Rattle.history.specs.Events.{State, Event, create, write, shorten, remove, Step}
+use Rattle.history.specs.Events.{State, create, write, shorten, remove, Step}
 use Rattle.history.specs.History.{created, wrote, shortened, removed, nothing, deed}
 
 -- an accepted call counts, with the handle that it answered

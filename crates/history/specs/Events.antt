@@ -8,12 +8,11 @@ use Rattle.std.specs.declared.result.Result.the-variants.{Ok, Err}
 use Rattle.base.specs.declared.number.BlockNo.{BlockNo}
 use Rattle.base.specs.declared.owner.Kind.{Kind}
 use Rattle.base.specs.declared.owner.Handle.{Handle}
-use Rattle.base.specs.declared.refusal.Refusal.{Refusal}
 use Rattle.base.specs.declared.refusal.Refusal.the-variants.{PowerGone}
 use Rattle.base.specs.declared.refusal.PathRefusal.{PathRefusal}
 use Rattle.device.specs.Model.{Model, Kept, Lost, Cut}
 use Rattle.device.specs.Answers.{SyncAnswer}
-use Rattle.device.specs.Effect.{Outcome, accepted, broken, Altered}
+use Rattle.device.specs.Effect.{accepted, broken, Altered}
 use Rattle.device.specs.declared.fault.Synced.{Synced}
 use Rattle.layout.specs.Format.{Name, Geometry}
 use Rattle.rule.specs.Agree.{Shown}
@@ -88,7 +87,7 @@ pub record Reads {A E : Type 0} (met : BlockNo → E) (rule : Ready → Shown �
   pub ready : Ready
   pub has : Has (s .card) ready
   pub turn : ((r ≡ rule ready (s .device .shown)) × Still s t (s .card))
-           ⊎ ((b : BlockNo) × Live ready × (r ≡ Err (met b)) × Gone s t (gone-at b (s .card)))
+      ⊎ ((b : BlockNo) × Live ready × (r ≡ Err (met b)) × Gone s t (gone-at b (s .card)))
 
 -- ---- changing calls, by their plan
 
@@ -133,7 +132,7 @@ pub record Syncs (s : State) (r : Answer (Unit {0})) (t : State) : Type 0 where
 pub record Opens (s t : State) : Type 0 where
   pub card : s .card ≡ closed
   pub turn : Still s t (opened (rule-of-card.opened (s .device .count) (s .device .shown)))
-           ⊎ ((b : BlockNo) × Gone s t (opened (lost-opened b (rule-of-card.opened (s .device .count) (s .device .shown)))))
+      ⊎ ((b : BlockNo) × Gone s t (opened (lost-opened b (rule-of-card.opened (s .device .count) (s .device .shown)))))
 
 abbrev pub By-step : Answer Surveying → Opened → State → Answer (ℕ × ℕ) → State → Type 0
 By-step (Ok w) o s r t = ((r ≡ Ok (w .remain, w .card .highest)) × Still s t (opened (w .card)))
@@ -150,7 +149,7 @@ pub record Ends (s t : State) : Type 0 where
   pub so-far : Opened
   pub card : s .card ≡ opened so-far
   pub turn : Still s t (surveyed (rule-of-card.surveyed so-far (s .device .shown)))
-           ⊎ ((b : BlockNo) × Live (so-far .ready) × Gone s t (surveyed (rule-of-card.surveyed (lost-opened b so-far) (s .device .shown))))
+      ⊎ ((b : BlockNo) × Live (so-far .ready) × Gone s t (surveyed (rule-of-card.surveyed (lost-opened b so-far) (s .device .shown))))
 
 -- the event e leads from s to t
 abbrev pub Step : State → Event → State → Type 0

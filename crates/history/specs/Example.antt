@@ -5,7 +5,6 @@ use mathlib.Core.List.{List, [], _∷_}
 use Prim.Native.Nat.{ℕ}
 use Rattle.std.specs.declared.result.Result.the-variants.{Ok, Err}
 use Rattle.base.specs.declared.owner.Kind.the-variants.{File}
-use Rattle.base.specs.declared.owner.Handle.{Handle}
 use Rattle.base.specs.declared.refusal.Refusal.the-variants.{PowerGone}
 use Rattle.layout.specs.Format.{Name, Geometry, handle}
 use Rattle.rule.specs.Agree.{root}

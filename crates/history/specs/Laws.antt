@@ -2,7 +2,7 @@
 use mathlib.Core.Path.{_≡_}
 use mathlib.Core.List.{List, [], _∷_, _++_}
 use mathlib.Core.Logic.{_⊎_}
-use Prim.Native.Nat.{ℕ, suc}
+use Prim.Native.Nat.{ℕ, suc, _≤_}
 use lib.ListN.{length}
 use Rattle.std.specs.declared.result.Result.{Result}
 use Rattle.std.specs.declared.result.Result.the-variants.{Ok}
@@ -10,11 +10,15 @@ use Rattle.base.specs.declared.owner.Kind.{Kind}
 use Rattle.base.specs.declared.owner.Kind.the-variants.{File}
 use Rattle.base.specs.declared.owner.Handle.{Handle}
 use Rattle.base.specs.declared.refusal.PathRefusal.{PathRefusal}
-use Rattle.layout.specs.Format.{Name, Geometry}
+use Rattle.device.specs.Model.{Model, Block, Stands}
+use Rattle.layout.specs.Format.{Name, Geometry, parse}
+use Rattle.layout.specs.Identities.{told}
 use Rattle.rule.specs.Agree.{View, seen, root}
+use Rattle.rule.specs.Card.{Card, opening}
 use Rattle.rule.specs.Reading.{Status, step, components}
 use Rattle.rule.specs.Reading as rule-of-reading
-use Rattle.history.specs.Events.{State, Event, find, path, read, sync}
+use Rattle.rule.specs.Readings.{InRange}
+use Rattle.history.specs.Events.{surveyed, State, Event, find, path, read, sync}
 use Rattle.history.specs.History.{Moment, present, History, Deed, created, wrote, shortened, removed, nothing, deed, maker, Done}
 
 abbrev pub after : Event → State → List Moment → List Moment
@@ -93,3 +97,19 @@ Settled-files-stay = (g : Geometry) (s t : State) (older newer : List Moment) (p
     History g s (newer ++ after (sync (Ok tt)) t older) → FileAt g t p h → Untouched s (after (sync (Ok tt)) t older) newer h →
     SameFile g t (present s (newer ++ after (sync (Ok tt)) t older)) p h
     × (maker s (newer ++ after (sync (Ok tt)) t older) h ≡ maker s (after (sync (Ok tt)) t older) h)
+
+-- ---- the card itself
+
+-- a card that was formatted can be opened at every point: no cut loses its cover or its root
+abbrev pub Formatted-cards-open : Type 0
+Formatted-cards-open = (g : Geometry) (s : State) (ms : List Moment) → History g s ms →
+    opening (present s ms .device .count) (present s ms .device .shown) ≡ Ok g
+
+-- what a surveyed card keeps is true of its device: no content that may stand tells a higher identity, and the cursors are in their regions
+pub record KeepsTrue (g : Geometry) (m : Model) (c : Card) : Type 0 where
+  pub highest : (b : ℕ) (z : Block) → Stands m b z → told g (parse g b z) ≤ c .highest
+  pub cursors : InRange g c
+
+abbrev pub Surveyed-cards-keep-true : Type 0
+Surveyed-cards-keep-true = (g h : Geometry) (s : State) (ms : List Moment) (c : Card) → History g s ms →
+    present s ms .card ≡ surveyed c → c .ready ≡ Ok h → (h ≡ g) × KeepsTrue g (present s ms .device) c

@@ -1,15 +1,24 @@
 // The laws of whole histories: definitions in specs/, theorems on the functions below.
 // A function here computes nothing: what its contract says is proved whenever the crate is.
-ghost use Rattle.history.specs.Laws.{Reads-what-was-written, Finds-what-was-made, Paths-lead-to-what-was-made, Settled-files-stay};
+ghost use Rattle.history.specs.Laws.{Reads-what-was-written, Finds-what-was-made, Paths-lead-to-what-was-made, Settled-files-stay, Formatted-cards-open, Surveyed-cards-keep-true};
 ghost use Rattle.history.specs.Counts.{Calls-count};
 ghost use Rattle.history.specs.Example.{It-happens};
 
-// What is read was written, what is found was made, and a file that a sync settled stays until it is changed, whatever each power cut leaves.
+// What is read was written, what is found was made, and a file that a sync settled stays until it is changed,
+// whatever each power cut leaves.
 pub fn laws_stand() -> u8
     ensures reads { λ _. ⌜ Reads-what-was-written ⌝ }
     ensures finds { λ _. ⌜ Finds-what-was-made ⌝ }
     ensures paths { λ _. ⌜ Paths-lead-to-what-was-made ⌝ }
     ensures settled { λ _. ⌜ Settled-files-stay ⌝ }
+{
+    0
+}
+
+// A formatted card can be opened at every point, and what a surveyed card keeps is true of its device.
+pub fn cards_stand() -> u8
+    ensures opens { λ _. ⌜ Formatted-cards-open ⌝ }
+    ensures keeps { λ _. ⌜ Surveyed-cards-keep-true ⌝ }
 {
     0
 }
