@@ -2,3 +2,4 @@ pub mod Views
 pub mod Steps
 pub mod Slots
 pub mod Lands
+pub mod Stays
