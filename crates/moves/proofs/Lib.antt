@@ -3,3 +3,5 @@ pub mod Steps
 pub mod Slots
 pub mod Lands
 pub mod Stays
+pub mod Gained
+pub mod Joins
