@@ -5,3 +5,5 @@ pub mod Lands
 pub mod Stays
 pub mod Gained
 pub mod Joins
+pub mod Leaves
+pub mod Starts

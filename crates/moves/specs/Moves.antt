@@ -16,7 +16,7 @@ use Rattle.rule.specs.Agree.{Shown, View, seen, slot-at, count, number, good, P
 use Rattle.rule.specs.Card.{Card, Plan}
 use Rattle.rule.specs.Reading.{child-of}
 use Rattle.rule.specs.Changing.{open-place, create, write, shorten, remove, format}
-use Rattle.moves.specs.Tied.{Tied}
+use Rattle.moves.specs.Tied.{Tied, sized}
 
 -- of the slots, exactly these are reached, and of the bodies, exactly these are held
 pub record Marked (g : Geometry) (v : View) (slots bodies : ℕ → Bool) : Type 0 where
@@ -77,3 +77,9 @@ Remove-moves = (g : Geometry) (c : Card) (shown : Shown) (f : Handle) (n : Name)
     Marked g (seen g (puts shown (p .puts)))
         (λ s. reached g (seen g shown) s && not (eqb s (a .slot .0)))
         (λ b. held g (seen g shown) b && not (good-from (seen g shown) a t 0 b))
+
+-- ---- format: only the root is reached, and nothing is held
+
+abbrev pub Format-moves : Type 0
+Format-moves = (n N S : ℕ) (ws : List Put) (shown : Shown) → format n N S ≡ Ok ws →
+    Marked (sized N S) (seen (sized N S) (puts shown ws)) (λ s. eqb s 0) (λ b. false)

@@ -1,5 +1,5 @@
 -- What a surveyed card's memory and the blocks shown have in common, from the end of the survey on.
-use Prim.Native.Nat.{ℕ, _≤_, _<_}
+use Prim.Native.Nat.{ℕ, suc, _≤_, _<_}
 use mathlib.Core.Path.{_≡_}
 use mathlib.Core.List.{List}
 use mathlib.Core.Bool.{true}
@@ -49,3 +49,16 @@ Shorten-stays-tied = (g : Geometry) (c : Card) (shown : Shown) (h : Handle) (n :
 abbrev pub Remove-stays-tied : Type 0
 Remove-stays-tied = (g : Geometry) (c : Card) (shown : Shown) (f : Handle) (n : Name) (p : Plan (Unit {0})) →
     Tied g c shown → remove f n c shown ≡ Ok p → Tied g (p .card) (puts shown (p .puts))
+
+-- ---- and so it is again after a format
+
+abbrev pub sized : ℕ → ℕ → Geometry
+sized N S = record { blocks = N; slots = S }
+
+-- a new card, opened and surveyed: only the root's identity is told
+abbrev pub new-card : Geometry → Card
+new-card g = record { ready = Ok g; highest = 1; next-slot = 0; next-body = suc (g .slots) }
+
+abbrev pub Format-ties : Type 0
+Format-ties = (n N S : ℕ) (ws : List Put) (shown : Shown) → format n N S ≡ Ok ws →
+    (surveyed (opened n (puts shown ws)) (puts shown ws) ≡ new-card (sized N S)) × Tied (sized N S) (new-card (sized N S)) (puts shown ws)
