@@ -1,32 +1,30 @@
 -- What joins the reached slots and the held bodies, step by step, and as tests.
-use Prim.Native.Nat.{ℕ, zero, suc, _-_, _≤_, _<_}
+use Prim.Native.Nat.{ℕ, suc, _-_, _≤_, _<_}
 use mathlib.Core.Path.{_≡_, refl, sym, ap, subst, _∙_}
-use mathlib.Core.List.{List, [], _∷_, _++_}
-use mathlib.Core.Bool.{Bool, true, false, cond, not, _&&_, _||_}
+use mathlib.Core.List.{List, [], _∷_}
+use mathlib.Core.Bool.{Bool, true, false, not, _&&_, _||_}
 use mathlib.Core.Logic.{_⊎_, inl, inr}
 use native.Mathlib.Omega.{arith}
 use lib.ListN.{length, getD, set}
 use lib.Dec.{eqb}
-use Rattle.std.specs.declared.option.Option.{Option}
-use Rattle.std.specs.declared.option.Option.the-variants.{Some, None}
+use Rattle.std.specs.declared.option.Option.the-variants.{Some}
 use Rattle.std.proofs.shelf.Tests.{cases-bool, cases-eq, cases-lt, both-ways, and-from, and-parts, or-cases, or-left, or-right, not-from-true, not-from-false, eqb-true, eq-eqb}
 use Rattle.std.proofs.shelf.Lists.{getD-set-same, getD-append-right}
 use Rattle.base.specs.declared.owner.Kind.{Kind}
 use Rattle.base.specs.declared.owner.Kind.the-variants.{File, Folder}
 use Rattle.base.specs.declared.owner.Handle.{Handle}
 use Rattle.base.specs.declared.owner.Back.{Back}
-use Rattle.layout.specs.Format.{Name, Cell, Geometry, handle, back, Slot, Content, slotted, file-body, folder-body, entry, entry-of}
-use Rattle.rule.specs.Agree.{View, count, number, root, back-in, reached, held}
+use Rattle.layout.specs.Format.{Name, Cell, Geometry, handle, back, Slot, Content, slotted, folder-body, entry, entry-of}
+use Rattle.rule.specs.Agree.{View, count, number, back-in, reached, held}
 use Rattle.rule.specs.Changing.{grown}
-use Rattle.rule.specs.Meaning.{Fits, Body, Good, Sound, Reached, the-root, under, Held, Rooted}
+use Rattle.rule.specs.Meaning.{Fits, Body, Good, Sound, Reached, under, Held, Rooted}
 use Rattle.rule.specs.Calls.{SoundAt}
 use Rattle.rule.proofs.Means.{reached-is-reached, held-is-held, same-slot}
 use Rattle.history.proofs.Parsed.{entry-child, slotted-same}
 use Rattle.history.proofs.Puts.{grown-below, grown-count}
-use Rattle.moves.specs.Moves.{Marked}
 use Rattle.moves.proofs.Views.{upd, upd-here, upd-else, Framed, fits-else, Moves, Nothing, reached-on, reached-back, held-on, held-back}
-use Rattle.moves.proofs.Steps.{body-fits, body-fits-back, body-framed, cell-written}
-use Rattle.moves.proofs.Slots.{Longer, Extra, reached-up, reached-down, held-up, held-down, extra-held}
+use Rattle.moves.proofs.Steps.{body-fits, body-fits-back, cell-written}
+use Rattle.moves.proofs.Slots.{Longer, reached-up, reached-down, held-up, held-down, extra-held}
 
 -- ---- tests
 
@@ -59,8 +57,12 @@ None-taken x = ⊥
 
 pub nothing-gained : (g : Geometry) (v w : View) → Moves g v w Nothing → Gained g v w Nothing None-taken
 nothing-gained g v w m = record {
-  on = reached-on g v w Nothing m; back = reached-back g v w Nothing m; new = λ h n. absurd n;
-  held-on = held-on g v w Nothing m; held-back = λ x h. inl (held-back g v w Nothing m x h); taken = λ x n. absurd n;
+  on = reached-on g v w Nothing m;
+  back = reached-back g v w Nothing m;
+  new = λ h n. absurd n;
+  held-on = held-on g v w Nothing m;
+  held-back = λ x h. inl (held-back g v w Nothing m x h);
+  taken = λ x n. absurd n;
 }
 
 -- after a step by which nothing joins
@@ -97,8 +99,9 @@ module _ (g : Geometry) (v w : View) (before : Rooted g v) (after : Rooted g w) 
   pub slot-joins : (a : Handle) (Taken : ℕ → Type 0) → Gained g v w (λ h. h ≡ a) Taken → (s : ℕ) → reached g w s ≡ (reached g v s || eqb s (a .slot .0))
   slot-joins a Taken m s = or-test (reached g w s) (reached g v s) (eqb s (a .slot .0))
       (λ e. let r = reached-is-reached g w after s .0 e in elim (m .back (handle s (r .0)) (r .1)) [
-          inl z ↦ inl (reached-is-reached g v before s .1 (r .0, z))
-        | inr z ↦ inr (eq-eqb s (a .slot .0) (ap (λ (h : Handle). h .slot .0) z)) ])
+        | inl z ↦ inl (reached-is-reached g v before s .1 (r .0, z))
+        | inr z ↦ inr (eq-eqb s (a .slot .0) (ap (λ (h : Handle). h .slot .0) z))
+      ])
       (λ e. let r = reached-is-reached g v before s .0 e in reached-is-reached g w after s .1 (r .0, m .on (handle s (r .0)) (r .1)))
       (λ e. reached-is-reached g w after s .1 (a .identity .0, subst (λ (i : ℕ). Reached g w (handle i (a .identity .0))) (sym (eqb-true s (a .slot .0) e)) (m .new a refl)))
 
@@ -114,7 +117,11 @@ pub body-name : (d : Kind) (o : Back) (y : Content) → Body d o y → back-in y
 body-name d o y (inl (x, k, e)) = ap back-in e
 body-name d o y (inr (x, k, e)) = ap back-in e
 
-some-same : {A : Type 0} {a b : A} → Some a ≡ Some b → a ≡ b
+-- a file is no folder
+pub no-folder : {X : Type 0} {d : Kind} → d ≡ File → d ≡ Folder → X
+no-folder p q = let z : _≡_ {A = ℕ} 0 1 = cc in absurd (omega arith)
+
+pub some-same : {A : Type 0} {a b : A} → Some a ≡ Some b → a ≡ b
 some-same e = cc
 
 pub one-name : (d e : Kind) (o p : Back) (y : Content) → Body d o y → Body e p y → o ≡ p
@@ -134,10 +141,11 @@ past-last g v h r y f e a t k fit l b =
 
 pub slot-framed : (g : Geometry) (v : View) (s : ℕ) (u : Slot) → Framed g v → ((k : ℕ) → k < count u → g .slots < number u k) → Framed g (upd v (suc s) (slotted u))
 slot-framed g v s u frame own h r k f l = elim (cases-eq (suc (h .slot .0)) (suc s)) [
-    inr ne ↦ frame h r k (fits-else g (upd v (suc s) (slotted u)) v (suc s) (λ i n. sym (upd-else v (suc s) (slotted u) i n)) h r f ne) l
+  | inr ne ↦ frame h r k (fits-else g (upd v (suc s) (slotted u)) v (suc s) (λ i n. sym (upd-else v (suc s) (slotted u) i n)) h r f ne) l
   | inl e ↦
       (let same : u ≡ r = slotted-same (sym (upd-here v (suc s) (slotted u)) ∙ ap (upd v (suc s) (slotted u)) (sym e) ∙ f .holds) in
-      subst (λ (x : Slot). g .slots < number x k) same (own k (subst (λ (x : Slot). k < count x) (sym same) l))) ]
+      subst (λ (x : Slot). g .slots < number x k) same (own k (subst (λ (x : Slot). k < count x) (sym same) l)))
+]
 
 pub grown-last : (r : Slot) (b : ℕ) → number (grown r b) (count r) ≡ b
 grown-last r b = let z : count r - count r ≡ 0 = omega arith in getD-append-right (r .numbers) (b ∷ []) (count r) (count r) 0 refl (omega arith) ∙ ap (λ (i : ℕ). getD (b ∷ []) i 0) z
@@ -154,8 +162,9 @@ module _ (g : Geometry) (v : View) (h : Handle) (r : Slot) (b : ℕ) (frame : Fr
 
   own-numbers : (k : ℕ) → k < count (grown r b) → g .slots < number (grown r b) k
   own-numbers k l = elim (cases-lt k (count r)) [
-      inl low ↦ subst (λ (x : ℕ). g .slots < x) (sym (grown-below r b k low)) (frame h r k fit low)
-    | inr far ↦ subst (λ (x : ℕ). g .slots < x) (sym (ap (number (grown r b)) (leaf-one k far l) ∙ grown-last r b)) above ]
+    | inl low ↦ subst (λ (x : ℕ). g .slots < x) (sym (grown-below r b k low)) (frame h r k fit low)
+    | inr far ↦ subst (λ (x : ℕ). g .slots < x) (sym (ap (number (grown r b)) (leaf-one k far l) ∙ grown-last r b)) above
+  ]
 
   pub grown-framed : Framed g longer-view
   grown-framed = slot-framed g v (h .slot .0) (grown r b) frame own-numbers
@@ -184,12 +193,16 @@ module _ (g : Geometry) (v : View) (h : Handle) (r : Slot) (b : ℕ) (frame : Fr
     new = λ a n. absurd n;
     held-on = held-up g v longer-view h r (grown r b) others fit stands-now longer frame grown-framed bare-leaf;
     held-back = λ x w. elim (held-down g v longer-view h r (grown r b) others fit stands-now longer frame grown-framed bare-leaf x w) [
-        inl z ↦ inl z
-      | inr z ↦ inr (sym (z .here) ∙ ap (number (grown r b)) (leaf-one (z .leaf) (z .from) (z .below)) ∙ grown-last r b) ];
+      | inl z ↦ inl z
+      | inr z ↦ inr (sym (z .here) ∙ ap (number (grown r b)) (leaf-one (z .leaf) (z .from) (z .below)) ∙ grown-last r b)
+    ];
     taken = λ x e. extra-held g v longer-view h r (grown r b) others fit stands-now longer frame grown-framed bare-leaf x stands (record {
-        leaf = count r; from = omega arith; below = (let c = grown-count r b in omega arith); here = grown-last r b ∙ sym e;
-        body = subst (λ (i : ℕ). Body (r .kind) (back h (count r)) (v i)) (sym e) body;
-      });
+      leaf = count r;
+      from = omega arith;
+      below = (let c = grown-count r b in omega arith);
+      here = grown-last r b ∙ sym e;
+      body = subst (λ (i : ℕ). Body (r .kind) (back h (count r)) (v i)) (sym e) body;
+    });
   }
 
 -- ---- an entry for a child without leaves
@@ -213,10 +226,16 @@ module _ (g : Geometry) (v : View) (f : Handle) (r : Slot) (k p b : ℕ) (es : L
 
   new-sound : Sound g entered f k p n a
   new-sound = record {
-    slot = r; fits = body-fits g v b _ above frame f r fit; kind = kind; below = below; cells = set es p e;
+    slot = r;
+    fits = body-fits g v b _ above frame f r fit;
+    kind = kind;
+    below = below;
+    cells = set es p e;
     body = ap entered at ∙ upd-here v b (folder-body (back f k) (set es p e));
     here = ap (entry-of g) (getD-set-same es p e [] inside) ∙ leads;
-    child = t; child-fits = body-fits g v b _ above frame a t child; parent = parent;
+    child = t;
+    child-fits = body-fits g v b _ above frame a t child;
+    parent = parent;
   }
 
   pub entry-gained : Gained g v entered (λ h. h ≡ a) None-taken

@@ -1,52 +1,40 @@
 -- Write and create: what joins.
-use Prim.Native.Nat.{ℕ, zero, suc, _≤_, _<_}
+use Prim.Native.Nat.{ℕ, suc, _<_}
 use mathlib.Core.Path.{_≡_, refl, sym, ap, subst, _∙_}
 use mathlib.Core.List.{List, [], _∷_}
-use mathlib.Core.Bool.{Bool, true, false, cond, _||_}
+use mathlib.Core.Bool.{true, false, cond, _||_}
 use mathlib.Core.Logic.{_⊎_, inl, inr}
 use native.Mathlib.Omega.{arith}
-use lib.ListN.{length, getD, set, replicate}
+use lib.ListN.{getD, set, replicate}
 use lib.Dec.{eqb, ltb}
 use Rattle.std.specs.declared.option.Option.{Option}
 use Rattle.std.specs.declared.option.Option.the-variants.{Some, None}
-use Rattle.std.proofs.shelf.Tests.{cases-eq, eqb-true, eq-eqb, ne-eqb, lt-ltb, le-ltb, cond-true, cond-false, or-left, or-cases, both-ways}
+use Rattle.std.proofs.shelf.Tests.{cases-eq, eqb-true, eq-eqb, lt-ltb, le-ltb, cond-true, cond-false}
 use Rattle.base.specs.declared.owner.Kind.{Kind}
-use Rattle.base.specs.declared.owner.Kind.the-variants.{File, Folder}
+use Rattle.base.specs.declared.owner.Kind.the-variants.{Folder}
 use Rattle.base.specs.declared.owner.Handle.{Handle}
 use Rattle.device.specs.Model.{put}
 use Rattle.device.specs.declared.put.Put.{Put}
 use Rattle.device.specs.Effect.{puts}
-use Rattle.layout.specs.Format.{Name, Cell, Geometry, handle, back, Slot, Content, slotted, file-body, folder-body, entry, entry-of, cell, blank-cell, parse, encode}
-use Rattle.layout.specs.Identities.{told}
-use Rattle.rule.specs.Agree.{Shown, View, seen, slot-at, count, number, Place, some-is, back-in, reached, held, free-body}
+use Rattle.layout.specs.Format.{Name, Cell, Geometry, back, Slot, Content, slotted, file-body, folder-body, entry, entry-of, cell, blank-cell, encode}
+use Rattle.rule.specs.Agree.{Shown, View, seen, count, number, Place, some-is, reached, held, free-body}
 use Rattle.rule.specs.Card.{Card, Plan}
-use Rattle.rule.specs.Changing.{store, store-slot, grown, new-slot, open-place, create, write}
-use Rattle.rule.specs.Meaning.{Fits, Body, Good, Sound, Reached, Held, FreeSlot, Rooted}
-use Rattle.rule.specs.Calls.{Standing, SoundAt, Writes, Replaces, Appends, InPlace, OnNewLeaf, Creates}
-use Rattle.rule.proofs.Steps.{clash, clash-none}
+use Rattle.rule.specs.Changing.{grown, new-slot, open-place}
+use Rattle.rule.specs.Meaning.{Fits, Body, Reached, Rooted}
+use Rattle.rule.specs.Calls.{SoundAt, Writes, Replaces, Appends, InPlace, OnNewLeaf, Creates}
+use Rattle.rule.proofs.Steps.{clash}
 use Rattle.rule.proofs.Means.{fits-at, same-slot}
 use Rattle.rule.proofs.Plans.{in-place, all-sound}
-use Rattle.history.proofs.Parsed.{apart, folder-cells, no-such-entry}
+use Rattle.history.proofs.Parsed.{folder-cells, no-such-entry}
 use Rattle.history.proofs.Stands.{blank-at}
 use Rattle.history.proofs.Puts.{grown-count}
 use Rattle.moves.specs.Tied.{Tied}
 use Rattle.moves.specs.Moves.{Marked, body-taken, body-added, Write-moves, Create-moves}
-use Rattle.moves.proofs.Views.{upd, upd-here, upd-else, Framed, fits-else, Moves, Nothing, reached-on, held-back}
-use Rattle.moves.proofs.Steps.{body-fits, body-fits-back, body-framed, file-written, slot-taken}
-use Rattle.moves.proofs.Steps as steps
+use Rattle.moves.proofs.Views.{upd, upd-here, upd-else, Framed, fits-else, Moves, Nothing}
+use Rattle.moves.proofs.Steps.{body-written, body-fits, body-framed, file-written, slot-taken}
 use Rattle.moves.proofs.Lands.{seen-put, rooted, framed, leaf-block, file-lands, grown-lands}
 use Rattle.moves.proofs.Stays.{write-tied, create-tied, new-entry, child-lands, entry-lands, body-lands, folder-lands, writes, creates}
-use Rattle.moves.proofs.Gained.{Gained, None-taken, nothing-gained, then-gained, both-gained, slots-same, slot-joins, bodies-join, past-last, slot-framed, grown-last, grown-framed, grown-fits, leaf-gained, entry-gained}
-
-or-none : (x y : Bool) → y ≡ false → x ≡ (x || y)
-or-none true y e = refl
-or-none false y e = sym e
-
-some-same : {A : Type 0} {a b : A} → Some a ≡ Some b → a ≡ b
-some-same e = cc
-
-no-folder : {X : Type 0} {d : Kind} → d ≡ File → d ≡ Folder → X
-no-folder p q = let z : _≡_ {A = ℕ} 0 1 = cc in absurd (omega arith)
+use Rattle.moves.proofs.Gained.{some-same, no-folder, Gained, None-taken, nothing-gained, then-gained, both-gained, slots-same, slot-joins, bodies-join, past-last, slot-framed, grown-last, grown-framed, grown-fits, leaf-gained, entry-gained}
 
 -- ---- write
 
@@ -98,24 +86,24 @@ module _ (g : Geometry) (c : Card) (shown : Shown) (tied : Tied g c shown) (h : 
       is : after ≡ upd (upd v (q .block) (file-body (back h (count r)) x)) (suc (h .slot .0)) (slotted (grown r (q .block)))
       is = ap (λ (l : List Put). seen g (puts shown l)) (q .blocks)
           ∙ seen-put g (put shown (q .block) (encode (file-body (back h k) x))) (suc (h .slot .0)) (encode (slotted (grown r (q .block)))) (slotted (grown r (q .block)))
-              (grown-lands g c shown tied (c .highest) h r (q .block) (omega arith) (w .standing .fits) (let l = w .leaf in let a = q .last in omega arith) (q .free .above) (q .free .inside) .parses)
+          (grown-lands g c shown tied (c .highest) h r (q .block) (omega arith) (w .standing .fits) (let l = w .leaf in let a = q .last in omega arith) (q .free .above) (q .free .inside) .parses)
           ∙ ap (λ (u : View). upd u (suc (h .slot .0)) (slotted (grown r (q .block))))
-              (seen-put g shown (q .block) (encode (file-body (back h k) x)) (file-body (back h k) x) (file-lands g c shown tied h r k (q .block) x (w .standing .fits) (w .leaf) (w .size) (q .free .above) (q .free .inside) .parses)
-              ∙ ap (λ (i : ℕ). upd v (q .block) (file-body (back h i) x)) (q .last))
+          (seen-put g shown (q .block) (encode (file-body (back h k) x)) (file-body (back h k) x) (file-lands g c shown tied h r k (q .block) x (w .standing .fits) (w .leaf) (w .size) (q .free .above) (q .free .inside) .parses)
+          ∙ ap (λ (i : ℕ). upd v (q .block) (file-body (back h i) x)) (q .last))
 
       first : Gained g v (upd v (q .block) (file-body (back h (count r)) x)) Nothing None-taken
-      first = nothing-gained g v _ (steps.body-taken g v (q .block) (file-body (back h (count r)) x) (q .free .above) (framed g c shown tied) (q .free .unheld)
+      first = nothing-gained g v _ (body-written g v (q .block) (file-body (back h (count r)) x) (q .free .above) (framed g c shown tied) (q .free .unheld)
           (past-last g v h r (file-body (back h (count r)) x) (w .standing .fits) refl))
 
       moved : Gained g v after Nothing (λ b. b ≡ q .block)
       moved = subst (λ (u : View). Gained g v u Nothing (λ b. b ≡ q .block)) (sym is)
           (then-gained g v _ _ Nothing (λ b. b ≡ q .block) first
-            (leaf-gained g (upd v (q .block) (file-body (back h (count r)) x)) h r (q .block)
-              (body-framed g v (q .block) (file-body (back h (count r)) x) (q .free .above) (framed g c shown tied))
-              (body-fits g v (q .block) (file-body (back h (count r)) x) (q .free .above) (framed g c shown tied) h r (w .standing .fits))
-              (first .on h (w .standing .reached)) (q .free .above)
-              (inl (x, w .standing .kind, upd-here v (q .block) (file-body (back h (count r)) x)))
-              (λ i es n a d e z. no-folder (w .standing .kind) d)))
+          (leaf-gained g (upd v (q .block) (file-body (back h (count r)) x)) h r (q .block)
+          (body-framed g v (q .block) (file-body (back h (count r)) x) (q .free .above) (framed g c shown tied))
+          (body-fits g v (q .block) (file-body (back h (count r)) x) (q .free .above) (framed g c shown tied) h r (w .standing .fits))
+          (first .on h (w .standing .reached)) (q .free .above)
+          (inl (x, w .standing .kind, upd-here v (q .block) (file-body (back h (count r)) x)))
+          (λ i es n a d e z. no-folder (w .standing .kind) d)))
 
   written : Marked g after (reached g v) (λ b. held g v b || some-is (body-added g v c k (count r)) (eqb b))
   written = elim (w .blocks) [ inl q ↦ replaced q | inr q ↦ appended q ]
@@ -125,7 +113,7 @@ write-moves g c shown h k x p r tied e at =
     let w = writes g c shown tied h k x p e in
     let same : w .slot ≡ r = some-same (sym (fits-at g (seen g shown) h (w .slot) (w .standing .fits)) ∙ at) in
     subst (λ (t : Slot). Marked g (seen g (puts shown (p .puts))) (reached g (seen g shown)) (λ b. held g (seen g shown) b || some-is (body-added g (seen g shown) c k (count t)) (eqb b))) same
-        (written g c shown tied h k x p w)
+    (written g c shown tied h k x p w)
 
 -- ---- create
 
@@ -135,8 +123,9 @@ again-upd v b i x y z ne = λ j n. at n j
   where
     at : (n : ℕ) → upd (upd (upd v b x) i z) b y n ≡ upd (upd v b y) i z n
     at n = elim (cases-eq n b) [
-        inl e ↦ cond-true (eqb n b) y _ (eq-eqb n b e) ∙ sym (upd-else (upd v b y) i z n (λ q. ne (sym e ∙ q)) ∙ cond-true (eqb n b) y (v n) (eq-eqb n b e))
-      | inr q ↦ upd-else (upd (upd v b x) i z) b y n q ∙ ap (λ (u : Content). cond (eqb n i) z u) (upd-else v b x n q ∙ sym (upd-else v b y n q)) ]
+      | inl e ↦ cond-true (eqb n b) y _ (eq-eqb n b e) ∙ sym (upd-else (upd v b y) i z n (λ q. ne (sym e ∙ q)) ∙ cond-true (eqb n b) y (v n) (eq-eqb n b e))
+      | inr q ↦ upd-else (upd (upd v b x) i z) b y n q ∙ ap (λ (u : Content). cond (eqb n i) z u) (upd-else v b x n q ∙ sym (upd-else v b y n q))
+    ]
 
 module _ (g : Geometry) (c : Card) (shown : Shown) (tied : Tied g c shown) (d : Kind) (f : Handle) (n : Name) (p : Plan Handle) (w : Creates g (seen g shown) c d f n p) where
   abbrev u : View
@@ -209,8 +198,8 @@ module _ (g : Geometry) (c : Card) (shown : Shown) (tied : Tied g c shown) (d : 
     placed-gained : Gained g u later (λ h. h ≡ a) None-taken
     placed-gained = subst (λ (z : View). Gained g u z (λ h. h ≡ a) None-taken) (sym placed-seen)
         (then-gained g u v1 _ (λ h. h ≡ a) None-taken gained1
-          (entry-gained g v1 f folder (q .leaf) (q .place) b (q .here .cells) (cell n a) n a child framed1 fit1 (gained1 .on f (w .standing .reached)) (w .standing .kind) (q .here .below) refl above
-            (body1 b above ∙ q .here .body) (q .here .inside) unsound1 led child1 refl refl))
+        (entry-gained g v1 f folder (q .leaf) (q .place) b (q .here .cells) (cell n a) n a child framed1 fit1 (gained1 .on f (w .standing .reached)) (w .standing .kind) (q .here .below) refl above
+        (body1 b above ∙ q .here .body) (q .here .inside) unsound1 led child1 refl refl))
 
   -- the folder gains a leaf: as if its entries were blank at first
   module _ (q : OnNewLeaf g u c f folder (cell n a) (w .rest) (w .next)) where
@@ -241,12 +230,12 @@ module _ (g : Geometry) (c : Card) (shown : Shown) (tied : Tied g c shown) (d : 
         ∙ ap (λ (l : List Put). seen g (puts (put shown (suc (a .slot .0)) (encode (slotted child))) l)) (q .blocks)
         ∙ seen-put g (put (put shown (suc (a .slot .0)) (encode (slotted child))) new (encode full)) (suc (f .slot .0)) (encode (slotted (grown folder new))) (slotted (grown folder new)) (folder-lands g c shown tied d f n p w (w .rest) (w .next) q .parses)
         ∙ ap (λ (z : View). upd z (suc (f .slot .0)) (slotted (grown folder new)))
-            (seen-put g (put shown (suc (a .slot .0)) (encode (slotted child))) new (encode full) full (body-lands g c shown tied d f n p w (w .rest) (w .next) q .parses)
-            ∙ ap (λ (z : View). upd z new full) first-seen)
+        (seen-put g (put shown (suc (a .slot .0)) (encode (slotted child))) new (encode full) full (body-lands g c shown tied d f n p w (w .rest) (w .next) q .parses)
+        ∙ ap (λ (z : View). upd z new full) first-seen)
         ∙ sym (again-upd v1 new (suc (f .slot .0)) bare full (slotted (grown folder new)) (λ e. let l = fit .inside in let m = behind in omega arith))
 
     gained2 : Gained g v1 v2 Nothing None-taken
-    gained2 = nothing-gained g v1 v2 (steps.body-taken g v1 new bare behind framed1
+    gained2 = nothing-gained g v1 v2 (body-written g v1 new bare behind framed1
         (λ z. elim (gained1 .held-back new z) [ inl s ↦ q .free .unheld s | inr s ↦ s ]) (past-last g v1 f folder bare fit1 refl))
 
     framed2 : Framed g v2
@@ -289,9 +278,9 @@ module _ (g : Geometry) (c : Card) (shown : Shown) (tied : Tied g c shown) (d : 
     leafed-gained : Gained g u later (λ h. h ≡ a) (λ x. x ≡ new)
     leafed-gained = subst (λ (z : View). Gained g u z (λ h. h ≡ a) (λ x. x ≡ new)) (sym leaf-seen)
         (then-gained g u v1 _ (λ h. h ≡ a) (λ x. x ≡ new) gained1 (then-gained g v1 v2 _ (λ h. h ≡ a) (λ x. x ≡ new) gained2 (both-gained g v2 v3 _ (λ h. h ≡ a) (λ x. x ≡ new) gained3
-          (entry-gained g v3 f (grown folder new) (count folder) 0 new (replicate 15 blank-cell) (cell n a) n a child
-            (grown-framed g v2 f folder new framed2 fit2 stands2 behind body2 blank2) fit3 (gained3 .on f stands2) (w .standing .kind) (omega (arith, grown-count folder new)) (grown-last folder new) behind
-            here3 (omega arith) unsound3 led child3 refl refl))))
+        (entry-gained g v3 f (grown folder new) (count folder) 0 new (replicate 15 blank-cell) (cell n a) n a child
+        (grown-framed g v2 f folder new framed2 fit2 stands2 behind body2 blank2) fit3 (gained3 .on f stands2) (w .standing .kind) (omega (arith, grown-count folder new)) (grown-last folder new) behind
+        here3 (omega arith) unsound3 led child3 refl refl))))
 
   root-before : Rooted g u
   root-before = rooted g c shown tied
@@ -326,4 +315,4 @@ create-moves g c shown d f n p r tied e at =
     let w = creates g c shown tied d f n p e in
     let same : w .slot ≡ r = some-same (sym (fits-at g (seen g shown) f (w .slot) (w .standing .fits)) ∙ at) in
     subst (λ (t : Slot). Marked g (seen g (puts shown (p .puts))) (λ s. reached g (seen g shown) s || eqb s (p .answer .slot .0)) (λ b. held g (seen g shown) b || some-is (body-taken g (seen g shown) c (open-place g (seen g shown) f t)) (eqb b))) same
-        (created g c shown tied d f n p w)
+    (created g c shown tied d f n p w)

@@ -1,28 +1,28 @@
 -- What a call writes reads back as it was meant, and keeps what a card and its blocks have in common.
-use Prim.Native.Nat.{ℕ, zero, suc, _+_, _≤_, _<_, max}
+use Prim.Native.Nat.{ℕ, zero, suc, _+_, _≤_, _<_}
 use mathlib.Core.Path.{_≡_, refl, sym, ap, subst, _∙_}
 use mathlib.Core.List.{List, [], _∷_, _++_}
-use mathlib.Core.Bool.{Bool, true, false, cond, _&&_}
-use mathlib.Core.Logic.{_⊎_, inl, inr}
+use mathlib.Core.Bool.{true, _&&_}
+use mathlib.Core.Logic.{inl, inr}
 use native.Mathlib.Omega.{arith}
-use lib.ListN.{length, getD, set, take, replicate, length-take, length-set}
-use lib.Dec.{eqb, leb, ltb}
+use lib.ListN.{length, set, take, replicate, length-take, length-set}
+use lib.Dec.{eqb, leb}
 use Rattle.std.proofs.shelf.Tests.{cases-eq, and-from, and-parts, eqb-true, eq-eqb, ne-eqb, lt-ltb, leb-true, cond-true, cond-false}
 use Rattle.base.specs.declared.owner.Kind.{Kind}
-use Rattle.base.specs.declared.owner.Kind.the-variants.{File, Folder}
+use Rattle.base.specs.declared.owner.Kind.the-variants.{Folder}
 use Rattle.base.specs.declared.owner.Handle.{Handle}
 use Rattle.device.specs.Model.{Block, put}
-use Rattle.layout.specs.Format.{Name, Cell, Geometry, handle, back, Slot, Content, blank, slotted, file-body, folder-body, Entry, entry, no-entry, in-limits, body-number, all-bodies, plain-bytes, good-name, cell, blank-cell, parse, encode, entry-of}
-use Rattle.layout.specs.Identities.{entry-identity, highest-in, told}
-use Rattle.rule.specs.Agree.{Shown, View, seen, same-kind, same-handle, slot-in, count, number, some-is, root}
+use Rattle.layout.specs.Format.{Name, Cell, Geometry, back, Slot, Content, blank, slotted, file-body, folder-body, entry, in-limits, body-number, all-bodies, plain-bytes, good-name, cell, blank-cell, parse, encode, entry-of}
+use Rattle.layout.specs.Identities.{entry-identity, told}
+use Rattle.rule.specs.Agree.{Shown, View, seen, same-kind, same-handle, slot-in, count, number, root}
 use Rattle.rule.specs.Card.{Card, is-root}
 use Rattle.rule.specs.Changing.{grown, cut-to, new-slot, last-identity}
 use Rattle.rule.specs.Meaning.{Fits, Rooted}
 use Rattle.rule.proofs.Steps.{some-is-true}
 use Rattle.rule.proofs.Means.{slot-in-some}
-use Rattle.history.proofs.Trips.{Formed, Backed, Cells, slot-trip, file-trip, folder-trip, blank-trip, entry-trip, cell-length, slot-whole, file-whole, folder-whole, blank-whole}
-use Rattle.history.proofs.Parsed.{slot-parsed, folder-parsed, body-at, set-cells, blank-cells, blank-entry}
-use Rattle.history.proofs.Stands.{told-own, told-parent, entry-identity-of, highest-set, highest-blank}
+use Rattle.history.proofs.Trips.{Formed, Backed, slot-trip, file-trip, folder-trip, blank-trip, entry-trip, cell-length, slot-whole, file-whole, folder-whole, blank-whole}
+use Rattle.history.proofs.Parsed.{slot-parsed, folder-parsed, body-at, set-cells, blank-cells}
+use Rattle.history.proofs.Stands.{told-own, told-parent, highest-set, highest-blank}
 use Rattle.history.proofs.Puts.{grown-count}
 use Rattle.moves.specs.Tied.{Tied}
 use Rattle.moves.proofs.Views.{upd, Framed}
@@ -40,8 +40,9 @@ seen-put g shown b z y e = λ i x. at x i
   where
     at : (x : ℕ) → parse g x (put shown b z x) ≡ upd (seen g shown) b y x
     at x = elim (cases-eq x b) [
-        inl q ↦ ap (parse g x) (cond-true (eqb x b) z (shown x) (eq-eqb x b q)) ∙ ap (λ (i : ℕ). parse g i z) q ∙ e ∙ sym (cond-true (eqb x b) y (seen g shown x) (eq-eqb x b q))
-      | inr q ↦ ap (parse g x) (cond-false (eqb x b) z (shown x) (ne-eqb x b q)) ∙ sym (cond-false (eqb x b) y (seen g shown x) (ne-eqb x b q)) ]
+      | inl q ↦ ap (parse g x) (cond-true (eqb x b) z (shown x) (eq-eqb x b q)) ∙ ap (λ (i : ℕ). parse g i z) q ∙ e ∙ sym (cond-true (eqb x b) y (seen g shown x) (eq-eqb x b q))
+      | inr q ↦ ap (parse g x) (cond-false (eqb x b) z (shown x) (ne-eqb x b q)) ∙ sym (cond-false (eqb x b) y (seen g shown x) (ne-eqb x b q))
+    ]
 
 -- what the blocks alone have in common with a highest identity
 pub record Fine (g : Geometry) (top : ℕ) (shown : Shown) : Type 0 where
@@ -52,14 +53,17 @@ pub record Fine (g : Geometry) (top : ℕ) (shown : Shown) : Type 0 where
 pub fine-put : (g : Geometry) (high top : ℕ) (shown : Shown) (b : ℕ) (y : Content) → high ≤ top → Fine g high shown → Lands g top b y → (b ≡ 1 → is-root y ≡ true) → Fine g top (put shown b (encode y))
 fine-put g high top shown b y up f l r = record {
   root = elim (cases-eq 1 b) [
-      inl q ↦ ap is-root (here 1 q) ∙ r (sym q)
-    | inr q ↦ ap is-root (there 1 q) ∙ f .root ];
+    | inl q ↦ ap is-root (here 1 q) ∙ r (sym q)
+    | inr q ↦ ap is-root (there 1 q) ∙ f .root
+  ];
   counted = λ x. elim (cases-eq x b) [
-      inl q ↦ subst (λ (c : Content). told g c ≤ top) (sym (here x q)) (l .counted)
-    | inr q ↦ subst (λ (c : Content). told g c ≤ top) (sym (there x q)) (let a = f .counted x in omega arith) ];
+    | inl q ↦ subst (λ (c : Content). told g c ≤ top) (sym (here x q)) (l .counted)
+    | inr q ↦ subst (λ (c : Content). told g c ≤ top) (sym (there x q)) (let a = f .counted x in omega arith)
+  ];
   whole = λ x above low. elim (cases-eq x b) [
-      inl q ↦ ap length (cond-true (eqb x b) (encode y) (shown x) (eq-eqb x b q)) ∙ l .whole
-    | inr q ↦ ap length (cond-false (eqb x b) (encode y) (shown x) (ne-eqb x b q)) ∙ f .whole x above low ];
+    | inl q ↦ ap length (cond-true (eqb x b) (encode y) (shown x) (eq-eqb x b q)) ∙ l .whole
+    | inr q ↦ ap length (cond-false (eqb x b) (encode y) (shown x) (ne-eqb x b q)) ∙ f .whole x above low
+  ];
 }
   where
     same : (x : ℕ) → seen g (put shown b (encode y)) x ≡ upd (seen g shown) b y x

@@ -1,29 +1,27 @@
 -- Shorten and remove: what leaves.
 use Prim.Native.Nat.{ℕ, zero, suc, _+_, _-_, _≤_, _<_}
-use mathlib.Core.Path.{_≡_, refl, sym, ap, subst, subst₂, _∙_}
+use mathlib.Core.Path.{_≡_, refl, sym, ap, subst, _∙_}
 use mathlib.Core.List.{List, [], _∷_}
 use mathlib.Core.Bool.{Bool, true, false, cond, not, _&&_, _||_}
 use mathlib.Core.Logic.{_⊎_, inl, inr}
 use native.Mathlib.Omega.{arith}
-use lib.ListN.{length, getD, set, take, length-take}
-use lib.Dec.{eqb, ltb}
-use Rattle.std.specs.declared.option.Option.{Option}
-use Rattle.std.specs.declared.option.Option.the-variants.{Some, None}
-use Rattle.std.proofs.shelf.Tests.{cases-eq, cases-lt, and-from, and-parts, or-cases, or-left, or-right, eqb-true, eq-eqb, ne-eqb, cond-true, cond-false}
+use lib.ListN.{getD, set, length-take}
+use lib.Dec.{eqb}
+use Rattle.std.proofs.shelf.Tests.{cases-eq, and-from, and-parts, or-cases, or-left, or-right, eqb-true, eq-eqb, cond-true}
 use Rattle.std.proofs.shelf.Lists.{getD-take}
 use Rattle.base.specs.declared.owner.Kind.{Kind}
-use Rattle.base.specs.declared.owner.Kind.the-variants.{File, Folder}
+use Rattle.base.specs.declared.owner.Kind.the-variants.{Folder}
 use Rattle.base.specs.declared.owner.Handle.{Handle}
 use Rattle.base.specs.declared.owner.Back.{Back}
 use Rattle.device.specs.Model.{put}
 use Rattle.device.specs.declared.put.Put.{Put}
 use Rattle.device.specs.Effect.{puts}
-use Rattle.layout.specs.Format.{Name, Cell, Geometry, handle, back, Slot, Content, blank, slotted, file-body, folder-body, entry, entry-of, blank-cell, parse, encode}
-use Rattle.rule.specs.Agree.{Shown, View, seen, slot-at, count, number, good, Place, found, from, reached, held}
+use Rattle.layout.specs.Format.{Name, Cell, Geometry, handle, back, Slot, Content, blank, slotted, folder-body, entry, entry-of, blank-cell, encode}
+use Rattle.rule.specs.Agree.{Shown, View, seen, count, number, good, from, reached, held}
 use Rattle.rule.specs.Card.{Card, Plan}
 use Rattle.rule.specs.Reading.{child-of}
-use Rattle.rule.specs.Changing.{store, store-slot, cut-to, shorten, remove}
-use Rattle.rule.specs.Meaning.{Fits, Body, Good, Sound, Reached, Held, Finds, Rooted}
+use Rattle.rule.specs.Changing.{store-slot, cut-to}
+use Rattle.rule.specs.Meaning.{Fits, Body, Sound, Reached, Held, Rooted}
 use Rattle.rule.specs.Calls.{SoundAt, Shortens, Removes}
 use Rattle.rule.proofs.Means.{fits-at, same-slot, good-parts, good-from, reached-is-reached, held-is-held, found-is-found}
 use Rattle.rule.proofs.Answered.{found-once}
@@ -31,34 +29,39 @@ use Rattle.history.proofs.Parsed.{blank-entry, folder-cells, entry-child, no-su
 use Rattle.moves.specs.Tied.{Tied}
 use Rattle.moves.specs.Moves as specs
 use Rattle.moves.specs.Moves.{Marked, good-among, Shorten-moves, Remove-moves}
-use Rattle.moves.proofs.Views.{upd, upd-here, upd-else, Framed, Moves, Nothing}
+use Rattle.moves.proofs.Views.{upd, upd-here, upd-else, Framed, Nothing}
 use Rattle.moves.proofs.Steps.{cell-written}
-use Rattle.moves.proofs.Slots.{Longer, Extra, reached-up, reached-down, held-up, held-down, Own, blank-framed, no-fit, sound-unblank, reached-blank, reached-unblank, held-blank, held-unblank}
-use Rattle.moves.proofs.Lands.{seen-put, rooted, framed, leaf-block, cut-lands}
+use Rattle.moves.proofs.Slots.{Longer, reached-up, reached-down, held-up, held-down, blank-framed, no-fit, sound-unblank, reached-blank, reached-unblank, held-blank, held-unblank}
+use Rattle.moves.proofs.Lands.{seen-put, rooted, framed, cut-lands}
 use Rattle.moves.proofs.Stays.{shorten-tied, remove-tied, above-root, hole-lands, gone-lands, shortens, removes}
-use Rattle.moves.proofs.Gained.{Gained, None-taken, nothing-gained, but-test, reached-same, one-name, slot-framed}
-
-some-same : {A : Type 0} {a b : A} → Some a ≡ Some b → a ≡ b
-some-same e = cc
-
-no-folder : {X : Type 0} {d : Kind} → d ≡ File → d ≡ Folder → X
-no-folder p q = let z : _≡_ {A = ℕ} 0 1 = cc in absurd (omega arith)
+use Rattle.moves.proofs.Gained.{or-test, some-same, no-folder, Gained, None-taken, nothing-gained, but-test, reached-same, one-name, slot-framed}
 
 -- ---- a good leaf from some leaf on, as a test
 
 module _ (v : View) (h : Handle) (r : Slot) (b : ℕ) where
-  among-true : (i m : ℕ) → good-among v h r b (from i m) ≡ true → (k : ℕ) × (i ≤ k) × (k < i + m) × (good v h r k ≡ true) × (b ≡ number r k)
+  pub among-true : (i m : ℕ) → good-among v h r b (from i m) ≡ true → (k : ℕ) × (i ≤ k) × (k < i + m) × (good v h r k ≡ true) × (b ≡ number r k)
   among-true i zero e = let z : _≡_ {A = ℕ} 0 1 = cc in absurd (omega arith)
   among-true i (suc m) e = elim (or-cases (good v h r i && eqb b (number r i)) (good-among v h r b (from (suc i) m)) e) [
-      inl q ↦ (let w = and-parts (good v h r i) (eqb b (number r i)) q in (i, omega arith, omega arith, w .0, eqb-true b (number r i) (w .1)))
-    | inr q ↦ (let w = among-true (suc i) m q in (w .0, (let a = w .1 in omega arith), (let a = w .2 in omega arith), w .3, w .4)) ]
+    | inl q ↦ (let w = and-parts (good v h r i) (eqb b (number r i)) q in (i, omega arith, omega arith, w .0, eqb-true b (number r i) (w .1)))
+    | inr q ↦ (let w = among-true (suc i) m q in (w .0, (let a = w .1 in omega arith), (let a = w .2 in omega arith), w .3, w .4))
+  ]
 
-  among-from : (i m k : ℕ) → i ≤ k → k < i + m → good v h r k ≡ true → b ≡ number r k → good-among v h r b (from i m) ≡ true
+  pub among-from : (i m k : ℕ) → i ≤ k → k < i + m → good v h r k ≡ true → b ≡ number r k → good-among v h r b (from i m) ≡ true
   among-from i zero k up low d e = absurd (omega arith)
   among-from i (suc m) k up low d e = elim (cases-eq k i) [
-      inl q ↦ or-left (good v h r i && eqb b (number r i)) (good-among v h r b (from (suc i) m))
+    | inl q ↦ or-left (good v h r i && eqb b (number r i)) (good-among v h r b (from (suc i) m))
         (subst (λ (j : ℕ). (good v h r j && eqb b (number r j)) ≡ true) q (and-from (good v h r k) (eqb b (number r k)) d (eq-eqb b (number r k) e)))
-    | inr ne ↦ or-right (good v h r i && eqb b (number r i)) (good-among v h r b (from (suc i) m)) (among-from (suc i) m k (omega arith) (omega arith) d e) ]
+    | inr ne ↦ or-right (good v h r i && eqb b (number r i)) (good-among v h r b (from (suc i) m)) (among-from (suc i) m k (omega arith) (omega arith) d e)
+  ]
+
+-- one leaf more, at the end
+pub among-more : (v : View) (h : Handle) (r : Slot) (b i m : ℕ) → good-among v h r b (from i (suc m)) ≡ (good-among v h r b (from i m) || (good v h r (i + m) && eqb b (number r (i + m))))
+among-more v h r b i m = or-test (good-among v h r b (from i (suc m))) (good-among v h r b (from i m)) (good v h r (i + m) && eqb b (number r (i + m)))
+    (λ e. let w = among-true v h r b i (suc m) e in elim (cases-eq (w .0) (i + m)) [
+        inl q ↦ inr (subst (λ (k : ℕ). (good v h r k && eqb b (number r k)) ≡ true) q (and-from (good v h r (w .0)) (eqb b (number r (w .0))) (w .3) (eq-eqb b (number r (w .0)) (w .4))))
+      | inr ne ↦ inl (among-from v h r b i m (w .0) (w .1) (let l = w .2 in omega arith) (w .3) (w .4)) ])
+    (λ e. let w = among-true v h r b i m e in among-from v h r b i (suc m) (w .0) (w .1) (let l = w .2 in omega arith) (w .3) (w .4))
+    (λ e. let w = and-parts (good v h r (i + m)) (eqb b (number r (i + m))) e in among-from v h r b i (suc m) (i + m) (omega arith) (omega arith) (w .0) (eqb-true b (number r (i + m)) (w .1)))
 
 -- such a leaf names h
 good-body : (g : Geometry) (v : View) (h : Handle) (r : Slot) (k b : ℕ) → Fits g v h r → good v h r k ≡ true → b ≡ number r k → (d : Kind) × Body d (back h k) (v b)
@@ -154,10 +157,11 @@ module _ (g : Geometry) (c : Card) (shown : Shown) (tied : Tied g c shown) (h : 
 
     left : (x : ℕ) → Held g v x → Held g cut x ⊎ (specs.good-from v h r n x ≡ true)
     left x a = elim (held-down g cut v h (cut-to r n) r others cut-fits (fit .holds) longer cut-framed (framed g c shown tied) bare x a) [
-        inl z ↦ inl z
+      | inl z ↦ inl z
       | inr z ↦ inr (among-from v h r x n (count r - n) (z .leaf) (let a = z .from in let e = cut-count in omega arith) (let l = z .below in omega arith)
           (good-from v h r (z .leaf) (z .below) (subst (Body (r .kind) (back h (z .leaf))) (sym (others (number r (z .leaf)) (λ q. let l = fit .inside in let m = framed g c shown tied h r (z .leaf) fit (z .below) in omega arith) ∙ ap cut (z .here))) (z .body)))
-          (sym (z .here))) ]
+          (sym (z .here)))
+    ]
 
     cut-marks : Marked g cut (reached g v) (λ b. held g v b && not (specs.good-from v h r n b))
     cut-marks = record {
@@ -171,15 +175,16 @@ module _ (g : Geometry) (c : Card) (shown : Shown) (tied : Tied g c shown) (h : 
 
   shortened : Result
   shortened = elim (w .blocks) [
-      inl q ↦ nothing-left (q .0) (q .1)
-    | inr q ↦ subst (λ (u : View). Marked g u (reached g v) (λ b. held g v b && not (specs.good-from v h r n b))) (sym (is (q .0) (q .1))) (cut-marks (q .0) (q .1)) ]
+    | inl q ↦ nothing-left (q .0) (q .1)
+    | inr q ↦ subst (λ (u : View). Marked g u (reached g v) (λ b. held g v b && not (specs.good-from v h r n b))) (sym (is (q .0) (q .1))) (cut-marks (q .0) (q .1))
+  ]
 
 pub shorten-moves : Shorten-moves
 shorten-moves g c shown h n p r tied e at =
     let w = shortens g c shown tied h n p e in
     let same : w .slot ≡ r = some-same (sym (fits-at g (seen g shown) h (w .slot) (w .standing .fits)) ∙ at) in
     subst (λ (t : Slot). Marked g (seen g (puts shown (p .puts))) (reached g (seen g shown)) (λ b. held g (seen g shown) b && not (specs.good-from (seen g shown) h t n b))) same
-        (shortened g c shown tied h n p w)
+    (shortened g c shown tied h n p w)
 
 -- ---- remove
 
@@ -188,8 +193,9 @@ swap-upd v b i y z ne = λ j n. at n j
   where
     at : (n : ℕ) → upd (upd v b y) i z n ≡ upd (upd v i z) b y n
     at n = elim (cases-eq n b) [
-        inl e ↦ upd-else (upd v b y) i z n (λ q. ne (sym e ∙ q)) ∙ cond-true (eqb n b) y (v n) (eq-eqb n b e) ∙ sym (cond-true (eqb n b) y (upd v i z n) (eq-eqb n b e))
-      | inr q ↦ ap (λ (x : Content). cond (eqb n i) z x) (upd-else v b y n q) ∙ sym (upd-else (upd v i z) b y n q) ]
+      | inl e ↦ upd-else (upd v b y) i z n (λ q. ne (sym e ∙ q)) ∙ cond-true (eqb n b) y (v n) (eq-eqb n b e) ∙ sym (cond-true (eqb n b) y (upd v i z n) (eq-eqb n b e))
+      | inr q ↦ ap (λ (x : Content). cond (eqb n i) z x) (upd-else v b y n q) ∙ sym (upd-else (upd v i z) b y n q)
+    ]
 
 -- one place has one entry
 one-entry : (g : Geometry) (v : View) (f a b : Handle) (k p : ℕ) (m n : Name) → Sound g v f k p m a → Sound g v f k p n b → a ≡ b
@@ -270,32 +276,36 @@ module _ (g : Geometry) (c : Card) (shown : Shown) (tied : Tied g c shown) (f : 
   slots-left x = but-test (reached g later x) (reached g u x) (eqb x (a .slot .0))
       (λ e. let r = reached-is-reached g later root-after x .0 e in let z = off (handle x (r .0)) (r .1) in (reached-is-reached g u root-before x .1 (r .0, z .0), λ q. z .1 (eqb-true x (a .slot .0) q)))
       (λ e. let r = reached-is-reached g u root-before x .0 e in elim (on (handle x (r .0)) (r .1)) [
-          inl z ↦ inl (reached-is-reached g later root-after x .1 (r .0, z))
-        | inr z ↦ inr (eq-eqb x (a .slot .0) (ap (λ (h : Handle). h .slot .0) z)) ])
+        | inl z ↦ inl (reached-is-reached g later root-after x .1 (r .0, z))
+        | inr z ↦ inr (eq-eqb x (a .slot .0) (ap (λ (h : Handle). h .slot .0) z))
+      ])
 
   held-off : (x : ℕ) → Held g later x → Held g u x × (specs.good-from u a t 0 x ≡ true → ⊥)
   held-off x y = elim (still .held-back x y) [
-      inr z ↦ absurd z
+    | inr z ↦ absurd z
     | inl z ↦
         (let o = held-unblank g u a t (s .child-fits) above (w .hollow) (framed g c shown tied) x z in
-        let d = o .0 in
-        ( d
-        , λ e.
-            let k = among-true u a t x 0 (count t - 0) e in
-            let m = good-body g u a t (k .0) x (s .child-fits) (k .3) (k .4) in
-            let same : back (d .owner) (d .leaf) ≡ back a (k .0) = one-name (d .good .slot .kind) (m .0) (back (d .owner) (d .leaf)) (back a (k .0)) (u x)
-                (subst (λ (i : ℕ). Body (d .good .slot .kind) (back (d .owner) (d .leaf)) (u i)) (d .here) (d .good .body)) (m .1) in
-            o .1 (ap (λ (q : Back). q .owner .slot .0) same) )) ]
+        let d = o .0 in (
+          d,
+          λ e.
+              let k = among-true u a t x 0 (count t - 0) e in
+              let m = good-body g u a t (k .0) x (s .child-fits) (k .3) (k .4) in
+              let same : back (d .owner) (d .leaf) ≡ back a (k .0) = one-name (d .good .slot .kind) (m .0) (back (d .owner) (d .leaf)) (back a (k .0)) (u x)
+              (subst (λ (i : ℕ). Body (d .good .slot .kind) (back (d .owner) (d .leaf)) (u i)) (d .here) (d .good .body)) (m .1) in
+              o .1 (ap (λ (q : Back). q .owner .slot .0) same),
+        ))
+  ]
 
   held-keeps : (x : ℕ) → Held g u x → Held g later x ⊎ (specs.good-from u a t 0 x ≡ true)
   held-keeps x y = elim (held-blank g u a t (s .child-fits) above (w .hollow) (framed g c shown tied) x y) [
-      inl z ↦ inl (still .held-on x z)
+    | inl z ↦ inl (still .held-on x z)
     | inr z ↦
         (let same : z .1 .slot ≡ t = same-slot g u a (z .1 .slot) t (z .1 .fits) (s .child-fits) in
         let low : z .0 < count t = subst (λ (i : Slot). z .0 < count i) same (z .1 .below) in
         inr (among-from u a t x 0 (count t - 0) (z .0) (omega arith) (omega arith)
-          (subst (λ (i : Slot). good u a i (z .0) ≡ true) same (good-from u a (z .1 .slot) (z .0) (z .1 .below) (z .1 .body)))
-          (sym (z .2) ∙ ap (λ (i : Slot). number i (z .0)) same))) ]
+        (subst (λ (i : Slot). good u a i (z .0) ≡ true) same (good-from u a (z .1 .slot) (z .0) (z .1 .below) (z .1 .body)))
+        (sym (z .2) ∙ ap (λ (i : Slot). number i (z .0)) same)))
+  ]
 
   bodies-left : (x : ℕ) → held g later x ≡ (held g u x && not (specs.good-from u a t 0 x))
   bodies-left x = but-test (held g later x) (held g u x) (specs.good-from u a t 0 x)

@@ -1,21 +1,20 @@
 -- One slot changes: it gains or loses leaves, or is blanked.
-use Prim.Native.Nat.{ℕ, zero, suc, _+_, _≤_, _<_}
+use Prim.Native.Nat.{ℕ, suc, _≤_, _<_}
 use mathlib.Core.Path.{_≡_, refl, sym, ap, subst, subst₂, _∙_}
-use mathlib.Core.List.{List, [], _∷_}
-use mathlib.Core.Bool.{Bool, true, false, cond}
+use mathlib.Core.List.{List, []}
 use mathlib.Core.Logic.{_⊎_, inl, inr}
 use native.Mathlib.Omega.{arith}
-use lib.ListN.{length, getD}
+use lib.ListN.{getD}
 use Rattle.std.proofs.shelf.Tests.{cases-eq, cases-lt}
 use Rattle.base.specs.declared.owner.Kind.{Kind}
-use Rattle.base.specs.declared.owner.Kind.the-variants.{File, Folder}
+use Rattle.base.specs.declared.owner.Kind.the-variants.{Folder}
 use Rattle.base.specs.declared.owner.Handle.{Handle}
-use Rattle.layout.specs.Format.{Name, Cell, Geometry, handle, back, Slot, Content, blank, slotted, file-body, folder-body, entry, entry-of}
-use Rattle.rule.specs.Agree.{View, count, number, root}
+use Rattle.layout.specs.Format.{Name, Cell, Geometry, handle, back, Slot, Content, blank, slotted, folder-body, entry, entry-of}
+use Rattle.rule.specs.Agree.{View, count, number}
 use Rattle.rule.specs.Meaning.{Fits, Body, Good, Sound, Reached, the-root, under, Held}
 use Rattle.rule.specs.Calls.{SoundAt}
 use Rattle.history.proofs.Parsed.{apart, slotted-same}
-use Rattle.moves.proofs.Views.{upd, upd-here, upd-else, Framed, sound-good, Likewise, fits-else, sound-else, good-else}
+use Rattle.moves.proofs.Views.{upd, upd-here, upd-else, Framed, fits-else, sound-else, good-else}
 
 pub suc-same : {a b : ℕ} → suc a ≡ suc b → a ≡ b
 suc-same e = omega arith
@@ -58,14 +57,15 @@ module _ (g : Geometry) (small large : View) (h : Handle) (r u : Slot) (others :
 
   up : (a : Handle) (t : Slot) → Fits g small a t → Up a t
   up a t f = elim (cases-eq (a .slot .0) s) [
-      inr ne ↦ record { slot = t; fits = fits-else g small large (suc s) others a t f (λ e. ne (suc-same e)); more = longer-self t }
+    | inr ne ↦ record { slot = t; fits = fits-else g small large (suc s) others a t f (λ e. ne (suc-same e)); more = longer-self t }
     | inl e ↦
         (let same : r ≡ t = slotted-same (sym (stood .holds) ∙ ap (λ (x : ℕ). small (suc x)) (sym e) ∙ f .holds) in
         record {
           slot = u;
           fits = record { inside = f .inside; holds = ap (λ (x : ℕ). large (suc x)) e ∙ stands; same = longer .own ∙ ap (λ (x : Slot). x .identity) same ∙ f .same };
           more = subst (λ (x : Slot). Longer x u) same longer;
-        }) ]
+        })
+  ]
 
   -- leaf k of the longer slot is one of the shorter, or is new
   record Down (a : Handle) (t : Slot) : Type 0 where
@@ -76,8 +76,9 @@ module _ (g : Geometry) (small large : View) (h : Handle) (r u : Slot) (others :
 
   down : (a : Handle) (t : Slot) → Fits g large a t → Down a t
   down a t f = elim (cases-eq (a .slot .0) s) [
-      inr ne ↦ record { slot = t; fits = fits-else g large small (suc s) less a t f (λ e. ne (suc-same e)); more = longer-self t; leaf = λ k l. inl l }
-    | inl e ↦ here e ]
+    | inr ne ↦ record { slot = t; fits = fits-else g large small (suc s) less a t f (λ e. ne (suc-same e)); more = longer-self t; leaf = λ k l. inl l }
+    | inl e ↦ here e
+  ]
     where
       here : a .slot .0 ≡ s → Down a t
       here e =
@@ -88,8 +89,9 @@ module _ (g : Geometry) (small large : View) (h : Handle) (r u : Slot) (others :
             fits = record { inside = f .inside; holds = ap (λ (x : ℕ). small (suc x)) e ∙ stood .holds; same = own };
             more = subst (λ (x : Slot). Longer r x) same longer;
             leaf = λ k l. elim (cases-lt k (count r)) [
-                inl low ↦ inl low
-              | inr high ↦ inr (handle-is a s (h .identity .0) e (sym (stood .same) ∙ own), high, subst (λ (x : Slot). k < count x) (sym same) l, sym same) ];
+              | inl low ↦ inl low
+              | inr high ↦ inr (handle-is a s (h .identity .0) e (sym (stood .same) ∙ own), high, subst (λ (x : Slot). k < count x) (sym same) l, sym same)
+            ];
           }
 
   sound-up : (f c : Handle) (k p : ℕ) (n : Name) → Sound g small f k p n c → Sound g large f k p n c
@@ -97,26 +99,42 @@ module _ (g : Geometry) (small large : View) (h : Handle) (r u : Slot) (others :
       let a = up f (x .slot) (x .fits) in
       let b = up c (x .child) (x .child-fits) in
       record {
-        slot = a .slot; fits = a .fits; kind = a .more .kind ∙ x .kind; below = (let l = x .below in let m = a .more .fewer in omega arith); cells = x .cells;
+        slot = a .slot;
+        fits = a .fits;
+        kind = a .more .kind ∙ x .kind;
+        below = (let l = x .below in let m = a .more .fewer in omega arith);
+        cells = x .cells;
         body = ap large (a .more .numbers k (x .below)) ∙ at-leaf f (x .slot) k (x .fits) (x .below) ∙ x .body;
-        here = x .here; child = b .slot; child-fits = b .fits; parent = b .more .parent ∙ x .parent;
+        here = x .here;
+        child = b .slot;
+        child-fits = b .fits;
+        parent = b .more .parent ∙ x .parent;
       }
 
   sound-down : (f c : Handle) (k p : ℕ) (n : Name) → Sound g large f k p n c → Sound g small f k p n c
   sound-down f c k p n x = elim (a .leaf k (x .below)) [
-      inl l ↦ record {
-        slot = a .slot; fits = a .fits; kind = sym (a .more .kind) ∙ x .kind; below = l; cells = x .cells;
-        body = sym (at-leaf f (a .slot) k (a .fits) l) ∙ ap large (sym (a .more .numbers k l)) ∙ x .body;
-        here = x .here; child = b .slot; child-fits = b .fits; parent = sym (b .more .parent) ∙ x .parent;
-      }
+    | inl l ↦ record {
+      slot = a .slot;
+      fits = a .fits;
+      kind = sym (a .more .kind) ∙ x .kind;
+      below = l;
+      cells = x .cells;
+      body = sym (at-leaf f (a .slot) k (a .fits) l) ∙ ap large (sym (a .more .numbers k l)) ∙ x .body;
+      here = x .here;
+      child = b .slot;
+      child-fits = b .fits;
+      parent = sym (b .more .parent) ∙ x .parent;
+    }
     | inr w ↦ absurd (bare k p (x .cells) n c (w .1) (w .2)
         (sym (longer .kind) ∙ ap (λ (y : Slot). y .kind) (sym (w .3)) ∙ x .kind)
         (less (number u k) (behind (number u k) (subst (λ (y : Slot). g .slots < number y k) (w .3) (frame-large f (x .slot) k (x .fits) (x .below))))
-          ∙ ap (λ (y : Slot). large (number y k)) (sym (w .3)) ∙ x .body ∙ ap (λ (y : Handle). folder-body (back y k) (x .cells)) (w .0))
-        (x .here)) ]
+        ∙ ap (λ (y : Slot). large (number y k)) (sym (w .3)) ∙ x .body ∙ ap (λ (y : Handle). folder-body (back y k) (x .cells)) (w .0))
+        (x .here))
+  ]
     where
       a : Down f (x .slot)
       a = down f (x .slot) (x .fits)
+
       b : Down c (x .child)
       b = down c (x .child) (x .child-fits)
 
@@ -135,9 +153,13 @@ module _ (g : Geometry) (small large : View) (h : Handle) (r u : Slot) (others :
       let t = w .good .slot in
       let num = a .more .numbers (w .leaf) l in
       record {
-        owner = w .owner; leaf = w .leaf; reached = reached-up (w .owner) (w .reached);
+        owner = w .owner;
+        leaf = w .leaf;
+        reached = reached-up (w .owner) (w .reached);
         good = record {
-          slot = a .slot; fits = a .fits; below = (let m = a .more .fewer in omega arith);
+          slot = a .slot;
+          fits = a .fits;
+          below = (let m = a .more .fewer in omega arith);
           body = subst₂ (λ (d : Kind) (y : Content). Body d (back (w .owner) (w .leaf)) y) (sym (a .more .kind)) (sym (ap large num ∙ at-leaf (w .owner) t (w .leaf) (w .good .fits) l)) (w .good .body);
         };
         here = num ∙ w .here;
@@ -153,21 +175,28 @@ module _ (g : Geometry) (small large : View) (h : Handle) (r u : Slot) (others :
 
   pub held-down : (x : ℕ) → Held g large x → Held g small x ⊎ Extra x
   held-down x w = elim (a .leaf (w .leaf) (w .good .below)) [
-      inl l ↦ inl (record {
-        owner = w .owner; leaf = w .leaf; reached = reached-down (w .owner) (w .reached);
-        good = record {
-          slot = a .slot; fits = a .fits; below = l;
-          body = subst₂ (λ (d : Kind) (y : Content). Body d (back (w .owner) (w .leaf)) y) (a .more .kind) (ap large (a .more .numbers (w .leaf) l) ∙ at-leaf (w .owner) (a .slot) (w .leaf) (a .fits) l) (w .good .body);
-        };
-        here = sym (a .more .numbers (w .leaf) l) ∙ w .here;
-      })
+    | inl l ↦ inl (record {
+      owner = w .owner;
+      leaf = w .leaf;
+      reached = reached-down (w .owner) (w .reached);
+      good = record {
+        slot = a .slot;
+        fits = a .fits;
+        below = l;
+        body = subst₂ (λ (d : Kind) (y : Content). Body d (back (w .owner) (w .leaf)) y) (a .more .kind) (ap large (a .more .numbers (w .leaf) l) ∙ at-leaf (w .owner) (a .slot) (w .leaf) (a .fits) l) (w .good .body);
+      };
+      here = sym (a .more .numbers (w .leaf) l) ∙ w .here;
+    })
     | inr q ↦ inr (record {
-        leaf = w .leaf; from = q .1; below = q .2;
-        here = ap (λ (y : Slot). number y (w .leaf)) (sym (q .3)) ∙ w .here;
-        body = subst (λ (o : Handle). Body (r .kind) (back o (w .leaf)) (small x)) (q .0)
-            (subst₂ (λ (d : Kind) (y : Content). Body d (back (w .owner) (w .leaf)) y) (ap (λ (y : Slot). y .kind) (q .3) ∙ longer .kind)
-              (ap large (w .here) ∙ others x (behind x (subst (λ (i : ℕ). g .slots < i) (w .here) (frame-large (w .owner) (w .good .slot) (w .leaf) (w .good .fits) (w .good .below))))) (w .good .body));
-      }) ]
+      leaf = w .leaf;
+      from = q .1;
+      below = q .2;
+      here = ap (λ (y : Slot). number y (w .leaf)) (sym (q .3)) ∙ w .here;
+      body = subst (λ (o : Handle). Body (r .kind) (back o (w .leaf)) (small x)) (q .0)
+          (subst₂ (λ (d : Kind) (y : Content). Body d (back (w .owner) (w .leaf)) y) (ap (λ (y : Slot). y .kind) (q .3) ∙ longer .kind)
+          (ap large (w .here) ∙ others x (behind x (subst (λ (i : ℕ). g .slots < i) (w .here) (frame-large (w .owner) (w .good .slot) (w .leaf) (w .good .fits) (w .good .below))))) (w .good .body));
+    })
+  ]
     where
       a : Down (w .owner) (w .good .slot)
       a = down (w .owner) (w .good .slot) (w .good .fits)
@@ -175,9 +204,13 @@ module _ (g : Geometry) (small large : View) (h : Handle) (r u : Slot) (others :
   -- such a leaf is held, if the slot is reached
   pub extra-held : (x : ℕ) → Reached g small h → Extra x → Held g large x
   extra-held x w e = record {
-    owner = h; leaf = e .leaf; reached = reached-up h w;
+    owner = h;
+    leaf = e .leaf;
+    reached = reached-up h w;
     good = record {
-      slot = u; fits = fit; below = e .below;
+      slot = u;
+      fits = fit;
+      below = e .below;
       body = subst₂ (λ (d : Kind) (y : Content). Body d (back h (e .leaf)) y) (sym (longer .kind)) (sym (ap large (e .here) ∙ others x (behind x (subst (λ (i : ℕ). g .slots < i) (e .here) (frame-large h u (e .leaf) fit (e .below)))))) (e .body);
     };
     here = e .here;
@@ -233,10 +266,12 @@ module _ (g : Geometry) (v : View) (h : Handle) (t : Slot) (fit : Fits g v h t) 
   pub reached-blank : (a : Handle) → Reached g v a → Reached g blanked a ⊎ (a ≡ h)
   reached-blank a the-root = inl the-root
   reached-blank a (under {f} {c} {k} {p} {n} w x) = elim (same-or c (x .child) (x .child-fits)) [
-      inl e ↦ inr e
+    | inl e ↦ inr e
     | inr ne ↦ elim (reached-blank f w) [
-        inl y ↦ inl (under y (sound-blank f c k p n x ne))
-      | inr e ↦ absurd (hollow k p (subst (λ (a : Handle). SoundAt g v a k p) e (n, c, x))) ] ]
+      | inl y ↦ inl (under y (sound-blank f c k p n x ne))
+      | inr e ↦ absurd (hollow k p (subst (λ (a : Handle). SoundAt g v a k p) e (n, c, x)))
+    ]
+  ]
 
   pub reached-unblank : (a : Handle) → Reached g blanked a → Reached g v a × (a .slot .0 ≡ h .slot .0 → ⊥)
   reached-unblank a the-root = (the-root, λ e. omega (arith, e, above))
@@ -248,12 +283,14 @@ module _ (g : Geometry) (v : View) (h : Handle) (t : Slot) (fit : Fits g v h t) 
 
   pub held-blank : (x : ℕ) → Held g v x → Held g blanked x ⊎ Own x
   held-blank x w = elim (same-or (w .owner) (w .good .slot) (w .good .fits)) [
-      inl e ↦ (let z = subst (λ (a : Handle). (y : Good g v a (w .leaf)) × (number (y .slot) (w .leaf) ≡ x)) e (w .good, w .here) in inr (w .leaf, z .0, z .1))
+    | inl e ↦ (let z = subst (λ (a : Handle). (y : Good g v a (w .leaf)) × (number (y .slot) (w .leaf) ≡ x)) e (w .good, w .here) in inr (w .leaf, z .0, z .1))
     | inr ne ↦ elim (reached-blank (w .owner) (w .reached)) [
-        inr e ↦ absurd (ne e)
+      | inr e ↦ absurd (ne e)
       | inl y ↦
           (let a = good-else g v blanked (suc (h .slot .0)) b-on (w .owner) (w .leaf) (w .good) (λ e. ne (was (w .owner) (w .good .slot) (w .good .fits) e)) (leaf-apart (w .owner) (w .good .slot) (w .leaf) (w .good .fits) (w .good .below)) in
-          inl (record { owner = w .owner; leaf = w .leaf; reached = y; good = a .0; here = a .1 ∙ w .here })) ] ]
+          inl (record { owner = w .owner; leaf = w .leaf; reached = y; good = a .0; here = a .1 ∙ w .here }))
+    ]
+  ]
 
   pub held-unblank : (x : ℕ) → Held g blanked x → (w : Held g v x) × (w .owner .slot .0 ≡ h .slot .0 → ⊥)
   held-unblank x w =

@@ -1,11 +1,11 @@
 -- A surveyed card and its blocks have that in common, and after a format only the root is reached.
 use Prim.Native.Nat.{ℕ, zero, suc, _+_, _≤_, _<_}
 use mathlib.Core.Path.{_≡_, refl, sym, ap, subst, _∙_}
-use mathlib.Core.List.{List, [], _∷_}
-use mathlib.Core.Bool.{Bool, true, false, cond, _&&_}
-use mathlib.Core.Logic.{_⊎_, inl, inr}
+use mathlib.Core.List.{List}
+use mathlib.Core.Bool.{true, false, _&&_}
+use mathlib.Core.Logic.{inl, inr}
 use native.Mathlib.Omega.{arith}
-use lib.ListN.{length, replicate, length-replicate}
+use lib.ListN.{length, length-replicate}
 use lib.Dec.{eqb, leb}
 use Rattle.std.specs.declared.result.Result.the-variants.{Ok}
 use Rattle.std.proofs.shelf.Tests.{cases-lt, cases-eq, and-from, eqb-true, eq-eqb, le-leb}
@@ -13,14 +13,14 @@ use Rattle.base.specs.declared.owner.Kind.the-variants.{Folder}
 use Rattle.base.specs.declared.owner.Handle.{Handle}
 use Rattle.device.specs.declared.put.Put.{Put}
 use Rattle.device.specs.Effect.{puts}
-use Rattle.layout.specs.Format.{Geometry, handle, Slot, Content, blank, cover, slotted, ill-formed, cover-of, in-limits, parse, encode}
+use Rattle.layout.specs.Format.{Geometry, handle, Slot, Content, blank, cover, slotted, cover-of, in-limits, parse, encode}
 use Rattle.layout.specs.Identities.{told}
 use Rattle.rule.specs.Agree.{Shown, View, seen, same-kind, same-handle, count, root, reached, held}
-use Rattle.rule.specs.Card.{Ready, Card, is-root, opening, Opened, opened, ended-by, surveyed}
+use Rattle.rule.specs.Card.{Ready, Card, is-root, opening, opened, ended-by, surveyed}
 use Rattle.rule.specs.Changing.{new-slot, last-identity, format}
-use Rattle.rule.specs.Meaning.{Fits, Good, Sound, Reached, the-root, under, Held, Rooted}
+use Rattle.rule.specs.Meaning.{Fits, Good, Reached, the-root, under}
 use Rattle.rule.specs.Calls.{Formats}
-use Rattle.rule.specs.Readings.{Opens, Covers, InRange}
+use Rattle.rule.specs.Readings.{Opens}
 use Rattle.rule.proofs.Steps.{clash, handle-same}
 use Rattle.rule.proofs.Means.{reached-is-reached, held-is-held, same-slot}
 use Rattle.rule.proofs.Blocks.{format-means}
@@ -57,8 +57,9 @@ module _ (n : ℕ) (shown : Shown) (g : Geometry) (e : opening n shown ≡ Ok g)
   all-told : (b : ℕ) → told g (seen g shown b) ≤ surveyed (opened n shown) shown .highest
   all-told zero = let z = ap (told g) (parse-cover g (shown 0) ∙ opens .cover) in omega arith
   all-told (suc b) = elim (cases-lt (suc b) (g .blocks)) [
-      inl low ↦ survey-covers n shown g e .above (suc b) (omega arith) low
-    | inr far ↦ (let z = ap (told g) (parse-beyond g (suc b) (shown (suc b)) (let w = within .bodies in omega arith) far) in omega arith) ]
+    | inl low ↦ survey-covers n shown g e .above (suc b) (omega arith) low
+    | inr far ↦ (let z = ap (told g) (parse-beyond g (suc b) (shown (suc b)) (let w = within .bodies in omega arith) far) in omega arith)
+  ]
 
   pub starts : surveyed (opened n shown) shown .highest ≤ last-identity → ((b : ℕ) → 0 < b → b < g .blocks → length (shown b) ≡ 512) → Tied g (surveyed (opened n shown) shown) shown
   starts low whole = record {
@@ -119,13 +120,15 @@ module _ (n N S : ℕ) (ws : List Put) (before : Shown) (plan : format n N S ≡
 
   new-whole : (b : ℕ) → 0 < b → b < N → length (shown b) ≡ 512
   new-whole b up low = elim (cases-eq b 1) [
-      inl e ↦ ap (λ (i : ℕ). length (shown i)) e ∙ ap length (does .root before) ∙ slot-whole top (omega arith)
-    | inr ne ↦ ap length (does .zeros before b (omega arith) low) ∙ length-replicate {A = ℕ} 512 0 ]
+    | inl e ↦ ap (λ (i : ℕ). length (shown i)) e ∙ ap length (does .root before) ∙ slot-whole top (omega arith)
+    | inr ne ↦ ap length (does .zeros before b (omega arith) low) ∙ length-replicate {A = ℕ} 512 0
+  ]
 
   told-low : (b : ℕ) → 0 < b → b < N → told g (v b) ≤ 1
   told-low b up low = elim (cases-eq b 1) [
-      inl e ↦ (let z = ap (λ (i : ℕ). told g (v i)) e ∙ ap (told g) at-root in omega arith)
-    | inr ne ↦ (let z = ap (told g) (at-zero b (omega arith) low) in omega arith) ]
+    | inl e ↦ (let z = ap (λ (i : ℕ). told g (v i)) e ∙ ap (told g) at-root in omega arith)
+    | inr ne ↦ (let z = ap (told g) (at-zero b (omega arith) low) in omega arith)
+  ]
 
   highest-one : surveyed (opened n shown) shown .highest ≡ 1
   highest-one =

@@ -1,9 +1,9 @@
 -- What a card and its blocks have in common stays so after each accepted call.
-use Prim.Native.Nat.{ℕ, zero, suc, _+_, _≤_, _<_}
+use Prim.Native.Nat.{ℕ, suc, _≤_, _<_}
 use mathlib.Core.Path.{_≡_, refl, sym, ap, subst, _∙_}
 use mathlib.Core.List.{List, [], _∷_}
 use mathlib.Core.Bool.{true}
-use mathlib.Core.Logic.{_⊎_, inl, inr}
+use mathlib.Core.Logic.{inl, inr}
 use native.Mathlib.Omega.{arith}
 use lib.ListN.{getD, set, replicate}
 use Rattle.std.specs.declared.result.Result.the-variants.{Ok}
@@ -12,20 +12,20 @@ use Rattle.base.specs.declared.owner.Handle.{Handle}
 use Rattle.device.specs.Model.{put}
 use Rattle.device.specs.declared.put.Put.{Put}
 use Rattle.device.specs.Effect.{puts}
-use Rattle.layout.specs.Format.{Name, Cell, Geometry, back, Slot, Content, blank, slotted, file-body, folder-body, entry, entry-of, cell, blank-cell, encode}
+use Rattle.layout.specs.Format.{Name, Geometry, back, Slot, Content, blank, slotted, file-body, folder-body, entry, entry-of, cell, blank-cell, encode}
 use Rattle.layout.specs.Identities.{entry-identity}
 use Rattle.rule.specs.Agree.{Shown, View, seen, count, number}
 use Rattle.rule.specs.Card.{Card, Plan, is-root}
-use Rattle.rule.specs.Changing.{store, store-slot, grown, cut-to, new-slot, last-identity, create, write, shorten, remove}
+use Rattle.rule.specs.Changing.{grown, cut-to, new-slot, last-identity, create, write, shorten, remove}
 use Rattle.rule.specs.Meaning.{Fits, Rooted}
-use Rattle.rule.specs.Calls.{Writes, Replaces, Appends, Shortens, InPlace, OnNewLeaf, Creates, Removes}
+use Rattle.rule.specs.Calls.{Writes, Shortens, InPlace, OnNewLeaf, Creates, Removes}
 use Rattle.rule.specs.Readings.{InRange}
 use Rattle.rule.proofs.Plans.{ok-same, create-means, write-means, shorten-means, remove-means}
 use Rattle.rule.proofs.Answered.{create-keeps-range, write-keeps-range}
 use Rattle.history.proofs.Parsed.{blank-entry, child-parsed}
 use Rattle.history.proofs.Stands.{entry-identity-of}
 use Rattle.moves.specs.Tied.{Tied, Create-stays-tied, Write-stays-tied, Shorten-stays-tied, Remove-stays-tied}
-use Rattle.moves.proofs.Lands.{Lands, Fine, fine-put, Limits, limits-of, fine, rooted, leaf-block, grown-lands, cut-lands, file-lands, cell-lands, leaf-lands, new-lands, blank-lands, entry-size, entry-new}
+use Rattle.moves.proofs.Lands.{Lands, Fine, fine-put, limits-of, fine, rooted, leaf-block, grown-lands, cut-lands, file-lands, cell-lands, leaf-lands, new-lands, blank-lands, entry-size, entry-new}
 
 module _ (g : Geometry) (c : Card) (shown : Shown) (tied : Tied g c shown) where
   abbrev v : View
@@ -49,28 +49,30 @@ module _ (g : Geometry) (c : Card) (shown : Shown) (tied : Tied g c shown) where
 
   write-fine : (h : Handle) (k : ℕ) (x : List ℕ) (p : Plan (Unit {0})) (w : Writes g v c h k x p) → Fine g high (puts shown (p .puts))
   write-fine h k x p w = elim (w .blocks) [
-      inl q ↦
+    | inl q ↦
         (let at = leaf-block g c shown tied h (w .slot) k (w .standing .fits) (q .below) in
         subst (λ (l : List Put). Fine g high (puts shown l)) (sym (q .blocks))
-          (fine-body high high shown (number (w .slot) k) (file-body (back h k) x) (omega arith) (fine g c shown tied)
-            (file-lands g c shown tied h (w .slot) k (number (w .slot) k) x (w .standing .fits) (w .leaf) (w .size) (at .0) (at .1)) (at .0)))
+        (fine-body high high shown (number (w .slot) k) (file-body (back h k) x) (omega arith) (fine g c shown tied)
+        (file-lands g c shown tied h (w .slot) k (number (w .slot) k) x (w .standing .fits) (w .leaf) (w .size) (at .0) (at .1)) (at .0)))
     | inr q ↦ subst (λ (l : List Put). Fine g high (puts shown l)) (sym (q .blocks))
         (fine-put g high high _ (suc (h .slot .0)) (slotted (grown (w .slot) (q .block))) (omega arith)
-          (fine-body high high shown (q .block) (file-body (back h k) x) (omega arith) (fine g c shown tied)
-            (file-lands g c shown tied h (w .slot) k (q .block) x (w .standing .fits) (w .leaf) (w .size) (q .free .above) (q .free .inside)) (q .free .above))
-          (grown-lands g c shown tied high h (w .slot) (q .block) (omega arith) (w .standing .fits) (let l = w .leaf in let a = q .last in omega arith) (q .free .above) (q .free .inside))
-          (root-again h (w .slot) (w .standing .fits))) ]
+        (fine-body high high shown (q .block) (file-body (back h k) x) (omega arith) (fine g c shown tied)
+        (file-lands g c shown tied h (w .slot) k (q .block) x (w .standing .fits) (w .leaf) (w .size) (q .free .above) (q .free .inside)) (q .free .above))
+        (grown-lands g c shown tied high h (w .slot) (q .block) (omega arith) (w .standing .fits) (let l = w .leaf in let a = q .last in omega arith) (q .free .above) (q .free .inside))
+        (root-again h (w .slot) (w .standing .fits)))
+  ]
 
   write-after : (h : Handle) (k : ℕ) (x : List ℕ) (p : Plan (Unit {0})) (w : Writes g v c h k x p) → (p .card .ready ≡ c .ready) × (p .card .highest ≡ high)
   write-after h k x p w = elim (w .blocks) [
-      inl q ↦ (ap (λ (d : Card). d .ready) (q .after), ap (λ (d : Card). d .highest) (q .after))
-    | inr q ↦ (ap (λ (d : Card). d .ready) (q .after), ap (λ (d : Card). d .highest) (q .after)) ]
+    | inl q ↦ (ap (λ (d : Card). d .ready) (q .after), ap (λ (d : Card). d .highest) (q .after))
+    | inr q ↦ (ap (λ (d : Card). d .ready) (q .after), ap (λ (d : Card). d .highest) (q .after))
+  ]
 
   pub write-tied : (h : Handle) (k : ℕ) (x : List ℕ) (p : Plan (Unit {0})) → Writes g v c h k x p → Tied g (p .card) (puts shown (p .puts))
   write-tied h k x p w =
       let a = write-after h k x p w in
       again (p .card) _ (a .0) (subst (λ (t : ℕ). Fine g t (puts shown (p .puts))) (sym (a .1)) (write-fine h k x p w)) (let n = tied .narrow in let e = a .1 in omega arith)
-          (write-keeps-range g v c h k x p w (tied .range))
+      (write-keeps-range g v c h k x p w (tied .range))
 
   -- ---- shorten
 
@@ -79,9 +81,10 @@ module _ (g : Geometry) (c : Card) (shown : Shown) (tied : Tied g c shown) where
     where
       fined : Fine g high (puts shown (p .puts))
       fined = elim (w .blocks) [
-          inl q ↦ subst (λ (l : List Put). Fine g high (puts shown l)) (sym (q .1)) (fine g c shown tied)
+        | inl q ↦ subst (λ (l : List Put). Fine g high (puts shown l)) (sym (q .1)) (fine g c shown tied)
         | inr q ↦ subst (λ (l : List Put). Fine g high (puts shown l)) (sym (q .1))
-            (fine-put g high high shown (suc (h .slot .0)) (slotted (cut-to (w .slot) n)) (omega arith) (fine g c shown tied) (cut-lands g c shown tied h (w .slot) n (w .standing .fits)) (root-again h (w .slot) (w .standing .fits))) ]
+            (fine-put g high high shown (suc (h .slot .0)) (slotted (cut-to (w .slot) n)) (omega arith) (fine g c shown tied) (cut-lands g c shown tied h (w .slot) n (w .standing .fits)) (root-again h (w .slot) (w .standing .fits)))
+      ]
 
   -- ---- create
 
@@ -112,19 +115,20 @@ module _ (g : Geometry) (c : Card) (shown : Shown) (tied : Tied g c shown) where
 
     create-fine : Fine g (suc high) (puts shown (p .puts))
     create-fine = subst (λ (l : List Put). Fine g (suc high) (puts shown l)) (sym (w .blocks)) (elim (w .placed) [
-        inl q ↦ subst (λ (l : List Put). Fine g (suc high) (puts (put shown (suc (a .slot .0)) (encode (slotted (new-slot d f (a .identity .0))))) l)) (sym (q .blocks))
+      | inl q ↦ subst (λ (l : List Put). Fine g (suc high) (puts (put shown (suc (a .slot .0)) (encode (slotted (new-slot d f (a .identity .0))))) l)) (sym (q .blocks))
           (fine-body (suc high) (suc high) _ (number (w .slot) (q .leaf)) _ (omega arith) first-fine (entry-lands (w .rest) (w .next) q)
-            (leaf-block g c shown tied f (w .slot) (q .leaf) (w .standing .fits) (q .here .below) .0))
+          (leaf-block g c shown tied f (w .slot) (q .leaf) (w .standing .fits) (q .here .below) .0))
       | inr q ↦ subst (λ (l : List Put). Fine g (suc high) (puts (put shown (suc (a .slot .0)) (encode (slotted (new-slot d f (a .identity .0))))) l)) (sym (q .blocks))
           (fine-put g (suc high) (suc high) _ (suc (f .slot .0)) (slotted (grown (w .slot) (q .block))) (omega arith)
-            (fine-body (suc high) (suc high) _ (q .block) _ (omega arith) first-fine (body-lands (w .rest) (w .next) q) (q .free .above))
-            (folder-lands (w .rest) (w .next) q) (root-again f (w .slot) (w .standing .fits))) ])
+          (fine-body (suc high) (suc high) _ (q .block) _ (omega arith) first-fine (body-lands (w .rest) (w .next) q) (q .free .above))
+          (folder-lands (w .rest) (w .next) q) (root-again f (w .slot) (w .standing .fits)))
+    ])
 
     pub create-tied : Tied g (p .card) (puts shown (p .puts))
     create-tied =
         let up : p .card .highest ≡ suc high = ap (λ (d : Card). d .highest) (w .after) ∙ w .fresh in
         again (p .card) _ (ap (λ (d : Card). d .ready) (w .after)) (subst (λ (t : ℕ). Fine g t (puts shown (p .puts))) (sym up) create-fine) (let n = w .narrow in omega arith)
-            (create-keeps-range g v c d f n p w (tied .range))
+        (create-keeps-range g v c d f n p w (tied .range))
 
   -- ---- remove
 
@@ -145,9 +149,9 @@ module _ (g : Geometry) (c : Card) (shown : Shown) (tied : Tied g c shown) where
         fined : Fine g high (puts shown (p .puts))
         fined = subst (λ (l : List Put). Fine g high (puts shown l)) (sym (w .blocks))
             (fine-put g high high _ (suc (h .slot .0)) blank (omega arith)
-              (fine-body high high shown (number (w .found .sound .slot) (w .found .leaf)) _ (omega arith) (fine g c shown tied) hole-lands
-                (leaf-block g c shown tied f (w .found .sound .slot) (w .found .leaf) (w .found .sound .fits) (w .found .sound .below) .0))
-              gone-lands (λ e. absurd (let l = above-root in omega arith)))
+            (fine-body high high shown (number (w .found .sound .slot) (w .found .leaf)) _ (omega arith) (fine g c shown tied) hole-lands
+            (leaf-block g c shown tied f (w .found .sound .slot) (w .found .leaf) (w .found .sound .fits) (w .found .sound .below) .0))
+            gone-lands (λ e. absurd (let l = above-root in omega arith)))
 
 -- ---- from the plans
 

@@ -1,20 +1,18 @@
 -- One block changes: a free body or slot is taken, a body is written again.
-use Prim.Native.Nat.{ℕ, zero, suc, _+_, _≤_, _<_}
+use Prim.Native.Nat.{ℕ, suc, _≤_, _<_}
 use mathlib.Core.Path.{_≡_, refl, sym, ap, subst, _∙_}
-use mathlib.Core.List.{List, [], _∷_}
-use mathlib.Core.Bool.{Bool, true, false, cond}
+use mathlib.Core.List.{List, []}
 use mathlib.Core.Logic.{_⊎_, inl, inr}
 use native.Mathlib.Omega.{arith}
-use lib.ListN.{length, getD, set}
+use lib.ListN.{getD, set}
 use Rattle.std.proofs.shelf.Tests.{cases-eq}
 use Rattle.base.specs.declared.owner.Kind.{Kind}
-use Rattle.base.specs.declared.owner.Kind.the-variants.{File, Folder}
 use Rattle.base.specs.declared.owner.Handle.{Handle}
 use Rattle.base.specs.declared.owner.Back.{Back}
-use Rattle.layout.specs.Format.{Name, Cell, Geometry, handle, back, Slot, Content, slotted, file-body, folder-body, entry, entry-of}
+use Rattle.layout.specs.Format.{Name, Cell, Geometry, back, Slot, Content, slotted, file-body, folder-body, entry, entry-of}
 use Rattle.layout.specs.Identities.{told}
-use Rattle.rule.specs.Agree.{View, count, number, root}
-use Rattle.rule.specs.Meaning.{Fits, Body, Good, Sound, Reached, the-root, under, Held, FreeSlot}
+use Rattle.rule.specs.Agree.{View, count, number}
+use Rattle.rule.specs.Meaning.{Fits, Body, Good, Sound, Reached, under, Held, FreeSlot}
 use Rattle.rule.specs.Calls.{SoundAt}
 use Rattle.history.proofs.Parsed.{apart, slotted-same, folder-back, folder-cells, file-back}
 use Rattle.history.proofs.Stands.{told-entry, set-cases}
@@ -61,8 +59,8 @@ module _ (g : Geometry) (v : View) (b : ℕ) (y : Content) (up : g .slots < b) (
   sound-off f c k p n s ne = sound-else g after v b off f c k p n s (no-slot after f (s .slot) (s .fits)) ne (no-slot after c (s .child) (s .child-fits))
 
   -- b was free, and what it holds now is a leaf of nothing
-  pub body-taken : (Held g v b → ⊥) → ((h : Handle) (r : Slot) (k : ℕ) → Fits g v h r → k < count r → Body (r .kind) (back h k) y → ⊥) → Moves g v after Nothing
-  body-taken free none = record {
+  pub body-written : (Held g v b → ⊥) → ((h : Handle) (r : Slot) (k : ℕ) → Fits g v h r → k < count r → Body (r .kind) (back h k) y → ⊥) → Moves g v after Nothing
+  body-written free none = record {
     sounds = λ f c k p n r s. sound-on f c k p n s (λ e. old f k r (sound-good s) e);
     no-more = λ f c k p n r s. inl (sound-off f c k p n s (λ e. new f k (sound-good s) e));
     goods = λ h k r a. good-else g v after b on h k a (no-slot v h (a .slot) (a .fits)) (old h k r a);
@@ -80,19 +78,31 @@ module _ (g : Geometry) (v : View) (b : ℕ) (y : Content) (up : g .slots < b) (
   module _ (same : (d : Kind) (o : Back) → Body d o (v b) → Body d o y) (same-back : (d : Kind) (o : Back) → Body d o y → Body d o (v b)) where
     again-on : (h : Handle) (k : ℕ) (a : Good g v h k) → Likewise g v after h k a
     again-on h k a = elim (cases-eq (number (a .slot) k) b) [
-        inr ne ↦ good-else g v after b on h k a (no-slot v h (a .slot) (a .fits)) ne
-      | inl e ↦
-          ( record { slot = a .slot; fits = body-fits h (a .slot) (a .fits); below = a .below;
-              body = subst (Body (a .slot .kind) (back h k)) (sym (ap after e ∙ upd-here v b y)) (same (a .slot .kind) (back h k) (subst (λ (i : ℕ). Body (a .slot .kind) (back h k) (v i)) e (a .body))) }
-          , refl ) ]
+      | inr ne ↦ good-else g v after b on h k a (no-slot v h (a .slot) (a .fits)) ne
+      | inl e ↦ (
+        record {
+          slot = a .slot;
+          fits = body-fits h (a .slot) (a .fits);
+          below = a .below;
+          body = subst (Body (a .slot .kind) (back h k)) (sym (ap after e ∙ upd-here v b y)) (same (a .slot .kind) (back h k) (subst (λ (i : ℕ). Body (a .slot .kind) (back h k) (v i)) e (a .body)));
+        },
+        refl,
+      )
+    ]
 
     again-off : (h : Handle) (k : ℕ) (a : Good g after h k) → Likewise g after v h k a
     again-off h k a = elim (cases-eq (number (a .slot) k) b) [
-        inr ne ↦ good-else g after v b off h k a (no-slot after h (a .slot) (a .fits)) ne
-      | inl e ↦
-          ( record { slot = a .slot; fits = body-fits-back h (a .slot) (a .fits); below = a .below;
-              body = subst (λ (i : ℕ). Body (a .slot .kind) (back h k) (v i)) (sym e) (same-back (a .slot .kind) (back h k) (subst (Body (a .slot .kind) (back h k)) (ap after e ∙ upd-here v b y) (a .body))) }
-          , refl ) ]
+      | inr ne ↦ good-else g after v b off h k a (no-slot after h (a .slot) (a .fits)) ne
+      | inl e ↦ (
+        record {
+          slot = a .slot;
+          fits = body-fits-back h (a .slot) (a .fits);
+          below = a .below;
+          body = subst (λ (i : ℕ). Body (a .slot .kind) (back h k) (v i)) (sym e) (same-back (a .slot .kind) (back h k) (subst (Body (a .slot .kind) (back h k)) (ap after e ∙ upd-here v b y) (a .body)));
+        },
+        refl,
+      )
+    ]
 
 -- a file body is written again
 module _ (g : Geometry) (v : View) (b : ℕ) (o : Back) (x z : List ℕ) (up : g .slots < b) (frame : Framed g v) (stood : v b ≡ file-body o x) where
@@ -128,13 +138,20 @@ module _ (g : Geometry) (v : View) (b : ℕ) (f : Handle) (k : ℕ) (es : List C
           let names : back a j ≡ back f k = folder-back both in
           let cells : s .cells ≡ es = folder-cells both in
           elim (set-cases es p q e) [
-            inl w ↦ absurd (unsound (n, c, subst (λ (x : ℕ). Sound g v f k x n c) (sym (w .0)) (subst (λ (o : Back). Sound g v (o .owner) (o .leaf .0) q n c) names s)))
-          | inr w ↦ record {
-              slot = s .slot; fits = body-fits g v b _ up frame a (s .slot) (s .fits); kind = s .kind; below = s .below; cells = set es p e;
+            | inl w ↦ absurd (unsound (n, c, subst (λ (x : ℕ). Sound g v f k x n c) (sym (w .0)) (subst (λ (o : Back). Sound g v (o .owner) (o .leaf .0) q n c) names s)))
+            | inr w ↦ record {
+              slot = s .slot;
+              fits = body-fits g v b _ up frame a (s .slot) (s .fits);
+              kind = s .kind;
+              below = s .below;
+              cells = set es p e;
               body = ap cell-set i ∙ now-here ∙ ap (λ (o : Back). folder-body o (set es p e)) (sym names);
               here = ap (entry-of g) (w ∙ ap (λ (l : List Cell). getD l q []) (sym cells)) ∙ s .here;
-              child = s .child; child-fits = body-fits g v b _ up frame c (s .child) (s .child-fits); parent = s .parent;
-            } ]
+              child = s .child;
+              child-fits = body-fits g v b _ up frame c (s .child) (s .child-fits);
+              parent = s .parent;
+            }
+          ]
 
   cell-off : (a c : Handle) (j q : ℕ) (n : Name) → Sound g cell-set a j q n c → Sound g v a j q n c ⊎ (entry-of g e ≡ entry n c)
   cell-off a c j q n s = elim (cases-eq (number (s .slot) j) b) [ inr ne ↦ inl (sound-off g v b _ up frame a c j q n s ne) | inl i ↦ here i ]
@@ -145,13 +162,20 @@ module _ (g : Geometry) (v : View) (b : ℕ) (f : Handle) (k : ℕ) (es : List C
           let names : back a j ≡ back f k = folder-back both in
           let cells : s .cells ≡ set es p e = folder-cells both in
           elim (set-cases es p q e) [
-            inl w ↦ inr (ap (entry-of g) (sym (w .1) ∙ ap (λ (l : List Cell). getD l q []) (sym cells)) ∙ s .here)
-          | inr w ↦ inl (record {
-              slot = s .slot; fits = body-fits-back g v b _ up frame a (s .slot) (s .fits); kind = s .kind; below = s .below; cells = es;
+            | inl w ↦ inr (ap (entry-of g) (sym (w .1) ∙ ap (λ (l : List Cell). getD l q []) (sym cells)) ∙ s .here)
+            | inr w ↦ inl (record {
+              slot = s .slot;
+              fits = body-fits-back g v b _ up frame a (s .slot) (s .fits);
+              kind = s .kind;
+              below = s .below;
+              cells = es;
               body = ap v i ∙ stood ∙ ap (λ (o : Back). folder-body o es) (sym names);
               here = ap (entry-of g) (sym w ∙ ap (λ (l : List Cell). getD l q []) (sym cells)) ∙ s .here;
-              child = s .child; child-fits = body-fits-back g v b _ up frame c (s .child) (s .child-fits); parent = s .parent;
-            }) ]
+              child = s .child;
+              child-fits = body-fits-back g v b _ up frame c (s .child) (s .child-fits);
+              parent = s .parent;
+            })
+          ]
 
   pub cell-written : (Joins : Handle → Type 0) → ((n : Name) (c : Handle) → entry-of g e ≡ entry n c → Joins c) → ((h : Handle) (j : ℕ) → Joins h → Good g cell-set h j → ⊥) → Moves g v cell-set Joins
   cell-written Joins joins hollow = record {

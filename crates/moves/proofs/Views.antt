@@ -1,18 +1,13 @@
 -- What moves when a view changes: from what its sound entries and good leaves do.
-use Prim.Native.Nat.{ℕ, zero, suc, _+_, _≤_, _<_}
-use mathlib.Core.Path.{_≡_, refl, sym, ap, subst, _∙_}
-use mathlib.Core.List.{List, [], _∷_}
-use mathlib.Core.Bool.{Bool, true, false, cond}
+use Prim.Native.Nat.{ℕ, suc, _<_}
+use mathlib.Core.Path.{_≡_, refl, sym, subst, _∙_}
+use mathlib.Core.Bool.{cond}
 use mathlib.Core.Logic.{_⊎_, inl, inr}
-use native.Mathlib.Omega.{arith}
-use lib.ListN.{length, getD}
 use lib.Dec.{eqb}
-use Rattle.std.proofs.shelf.Tests.{cases-eq, eq-eqb, ne-eqb, cond-true, cond-false}
-use Rattle.base.specs.declared.owner.Kind.{Kind}
-use Rattle.base.specs.declared.owner.Kind.the-variants.{File, Folder}
+use Rattle.std.proofs.shelf.Tests.{eq-eqb, ne-eqb, cond-true, cond-false}
 use Rattle.base.specs.declared.owner.Handle.{Handle}
-use Rattle.layout.specs.Format.{Name, Cell, Geometry, handle, back, Slot, Content, slotted, file-body, folder-body, entry, entry-of}
-use Rattle.rule.specs.Agree.{View, count, number, root}
+use Rattle.layout.specs.Format.{Name, Geometry, back, Slot, Content}
+use Rattle.rule.specs.Agree.{View, count, number}
 use Rattle.rule.specs.Meaning.{Fits, Body, Good, Sound, Reached, the-root, under, Held}
 
 -- the view after block b came to hold x
@@ -43,14 +38,23 @@ module _ (g : Geometry) (v w : View) (b : ℕ) (others : (i : ℕ) → (i ≡ b 
 
   pub sound-else : (f c : Handle) (k p : ℕ) (n : Name) (s : Sound g v f k p n c) → (suc (f .slot .0) ≡ b → ⊥) → (number (s .slot) k ≡ b → ⊥) → (suc (c .slot .0) ≡ b → ⊥) → Sound g w f k p n c
   sound-else f c k p n s nf nb nc = record {
-    slot = s .slot; fits = fits-else f (s .slot) (s .fits) nf; kind = s .kind; below = s .below; cells = s .cells;
-    body = others (number (s .slot) k) nb ∙ s .body; here = s .here; child = s .child; child-fits = fits-else c (s .child) (s .child-fits) nc; parent = s .parent;
+    slot = s .slot;
+    fits = fits-else f (s .slot) (s .fits) nf;
+    kind = s .kind;
+    below = s .below;
+    cells = s .cells;
+    body = others (number (s .slot) k) nb ∙ s .body;
+    here = s .here;
+    child = s .child;
+    child-fits = fits-else c (s .child) (s .child-fits) nc;
+    parent = s .parent;
   }
 
   pub good-else : (h : Handle) (k : ℕ) (a : Good g v h k) → (suc (h .slot .0) ≡ b → ⊥) → (number (a .slot) k ≡ b → ⊥) → Likewise g v w h k a
-  good-else h k a nh nb =
-      ( record { slot = a .slot; fits = fits-else h (a .slot) (a .fits) nh; below = a .below; body = subst (Body (a .slot .kind) (back h k)) (sym (others (number (a .slot) k) nb)) (a .body) }
-      , refl )
+  good-else h k a nh nb = (
+    record { slot = a .slot; fits = fits-else h (a .slot) (a .fits) nh; below = a .below; body = subst (Body (a .slot .kind) (back h k)) (sym (others (number (a .slot) k) nb)) (a .body) },
+    refl,
+  )
 
 -- the sound entries and good leaves of what is reached stay, and nothing joins them but entries that lead to what `Joins`, which has no good leaf
 pub record Moves (g : Geometry) (v w : View) (Joins : Handle → Type 0) : Type 0 where
@@ -68,8 +72,9 @@ module _ (g : Geometry) (v w : View) (Joins : Handle → Type 0) (m : Moves g v 
   pub reached-back : (h : Handle) → Reached g w h → Reached g v h ⊎ Joins h
   reached-back h the-root = inl the-root
   reached-back h (under {f} {c} {k} {p} {n} r s) = elim (reached-back f r) [
-      inl a ↦ elim (m .no-more f c k p n a s) [ inl z ↦ inl (under a z) | inr z ↦ inr z ]
-    | inr j ↦ absurd (m .hollow f k j (sound-good s)) ]
+    | inl a ↦ elim (m .no-more f c k p n a s) [ inl z ↦ inl (under a z) | inr z ↦ inr z ]
+    | inr j ↦ absurd (m .hollow f k j (sound-good s))
+  ]
 
   pub held-on : (x : ℕ) → Held g v x → Held g w x
   held-on x h =
@@ -78,8 +83,9 @@ module _ (g : Geometry) (v w : View) (Joins : Handle → Type 0) (m : Moves g v 
 
   pub held-back : (x : ℕ) → Held g w x → Held g v x
   held-back x h = elim (reached-back (h .owner) (h .reached)) [
-      inl r ↦ (let a = m .no-other (h .owner) (h .leaf) r (h .good) in record { owner = h .owner; leaf = h .leaf; reached = r; good = a .0; here = a .1 ∙ h .here })
-    | inr j ↦ absurd (m .hollow (h .owner) (h .leaf) j (h .good)) ]
+    | inl r ↦ (let a = m .no-other (h .owner) (h .leaf) r (h .good) in record { owner = h .owner; leaf = h .leaf; reached = r; good = a .0; here = a .1 ∙ h .here })
+    | inr j ↦ absurd (m .hollow (h .owner) (h .leaf) j (h .good))
+  ]
 
 abbrev pub Nothing : Handle → Type 0
 Nothing h = ⊥

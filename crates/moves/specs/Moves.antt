@@ -1,8 +1,8 @@
 -- How the reached slots and the held bodies move under each accepted changing call: what joins, what leaves, and nothing else.
-use Prim.Native.Nat.{ℕ, suc, _-_, _<_}
+use Prim.Native.Nat.{ℕ, _-_}
 use mathlib.Core.Path.{_≡_}
 use mathlib.Core.List.{List, [], _∷_}
-use mathlib.Core.Bool.{Bool, true, false, cond, not, _&&_, _||_}
+use mathlib.Core.Bool.{Bool, false, cond, not, _&&_, _||_}
 use lib.Dec.{eqb, ltb}
 use Rattle.std.specs.declared.option.Option.{Option}
 use Rattle.std.specs.declared.option.Option.the-variants.{Some, None}
@@ -35,8 +35,8 @@ abbrev pub Create-moves : Type 0
 Create-moves = (g : Geometry) (c : Card) (shown : Shown) (d : Kind) (f : Handle) (n : Name) (p : Plan Handle) (r : Slot) →
     Tied g c shown → create d f n c shown ≡ Ok p → slot-at g (seen g shown) (f .slot .0) ≡ Some r →
     Marked g (seen g (puts shown (p .puts)))
-        (λ s. reached g (seen g shown) s || eqb s (p .answer .slot .0))
-        (λ b. held g (seen g shown) b || some-is (body-taken g (seen g shown) c (open-place g (seen g shown) f r)) (eqb b))
+    (λ s. reached g (seen g shown) s || eqb s (p .answer .slot .0))
+    (λ b. held g (seen g shown) b || some-is (body-taken g (seen g shown) c (open-place g (seen g shown) f r)) (eqb b))
 
 -- the body that leaf k of a file of so many leaves takes: none if it is below the count
 abbrev pub body-added : Geometry → View → Card → ℕ → ℕ → Option ℕ
@@ -47,8 +47,8 @@ abbrev pub Write-moves : Type 0
 Write-moves = (g : Geometry) (c : Card) (shown : Shown) (h : Handle) (k : ℕ) (x : List ℕ) (p : Plan (Unit {0})) (r : Slot) →
     Tied g c shown → write h k x c shown ≡ Ok p → slot-at g (seen g shown) (h .slot .0) ≡ Some r →
     Marked g (seen g (puts shown (p .puts)))
-        (reached g (seen g shown))
-        (λ b. held g (seen g shown) b || some-is (body-added g (seen g shown) c k (count r)) (eqb b))
+    (reached g (seen g shown))
+    (λ b. held g (seen g shown) b || some-is (body-added g (seen g shown) c k (count r)) (eqb b))
 
 -- ---- shorten and remove: what leaves
 
@@ -66,8 +66,8 @@ abbrev pub Shorten-moves : Type 0
 Shorten-moves = (g : Geometry) (c : Card) (shown : Shown) (h : Handle) (n : ℕ) (p : Plan (Unit {0})) (r : Slot) →
     Tied g c shown → shorten h n c shown ≡ Ok p → slot-at g (seen g shown) (h .slot .0) ≡ Some r →
     Marked g (seen g (puts shown (p .puts)))
-        (reached g (seen g shown))
-        (λ b. held g (seen g shown) b && not (good-from (seen g shown) h r n b))
+    (reached g (seen g shown))
+    (λ b. held g (seen g shown) b && not (good-from (seen g shown) h r n b))
 
 -- the slot of the child a that find takes, and the bodies of its good leaves, are free
 abbrev pub Remove-moves : Type 0
@@ -75,8 +75,8 @@ Remove-moves = (g : Geometry) (c : Card) (shown : Shown) (f : Handle) (n : Name)
     Tied g c shown → remove f n c shown ≡ Ok p → slot-at g (seen g shown) (f .slot .0) ≡ Some r →
     found g (seen g shown) f r n ≡ Some q → child-of (entry-of g (q .cell)) ≡ a → slot-at g (seen g shown) (a .slot .0) ≡ Some t →
     Marked g (seen g (puts shown (p .puts)))
-        (λ s. reached g (seen g shown) s && not (eqb s (a .slot .0)))
-        (λ b. held g (seen g shown) b && not (good-from (seen g shown) a t 0 b))
+    (λ s. reached g (seen g shown) s && not (eqb s (a .slot .0)))
+    (λ b. held g (seen g shown) b && not (good-from (seen g shown) a t 0 b))
 
 -- ---- format: only the root is reached, and nothing is held
 
