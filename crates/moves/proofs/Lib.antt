@@ -1,0 +1,9 @@
+pub mod Views
+pub mod Steps
+pub mod Slots
+pub mod Lands
+pub mod Stays
+pub mod Gained
+pub mod Joins
+pub mod Leaves
+pub mod Starts
