@@ -102,8 +102,8 @@ abbrev pub SyncRefused : Table → Table → Bool → Bool → Model → Model �
 SyncRefused ws vs g h m n (PowerGone p) =
     (p .0 ≡ 65535)
     × (((g ≡ true) × Alone ws vs g h m n)
-      ⊎ (((us : Table) × (k : Model) × (i : ℕ) × Drained ws m us k × Unsent us i vs h k n)
-        ⊎ ((k : Model) × Asked ws vs m k × SyncFault k n (PowerGone p) × (h ≡ true))))
+    ⊎ (((us : Table) × (k : Model) × (i : ℕ) × Drained ws m us k × Unsent us i vs h k n)
+    ⊎ ((k : Model) × Asked ws vs m k × SyncFault k n (PowerGone p) × (h ≡ true))))
 SyncRefused ws vs g h m n (NoSuchBlock p) = ⊥
 
 abbrev pub SyncBy : Result Synced Fault → Table → Table → Bool → Bool → Model → Model → Type 0

@@ -137,11 +137,11 @@ module _ (ws : List Put) (i : ℕ) (d : Put) (l : i < length ws) (m k n : Model)
       ⊎-elim
       (λ e. so-far b (ap (λ (f : ℕ → Block). f b) e))
       (λ e.
-          let at : n .shown b ≡ put (k .shown) (w .block .0) (w .bytes) b = ap (λ (f : ℕ → Block). f b) e in
-          ⊎-elim
-          (λ q. so-far b (at ∙ q))
-          (λ q. inr (put-here b (n .shown b) ws i d l (q .0, at ∙ q .1)))
-          (put-cases (k .shown) (w .block .0) (w .bytes) b))
+      let at : n .shown b ≡ put (k .shown) (w .block .0) (w .bytes) b = ap (λ (f : ℕ → Block). f b) e in
+      ⊎-elim
+      (λ q. so-far b (at ∙ q))
+      (λ q. inr (put-here b (n .shown b) ws i d l (q .0, at ∙ q .1)))
+      (put-cases (k .shown) (w .block .0) (w .bytes) b))
 
   broken-torn : Torn (w .block .0) (w .bytes) k n → Altered broken ws m n
   broken-torn h = record {

@@ -1,10 +1,10 @@
 // Several blocks written as one effect.
 ghost use mathlib.Core.Path.{_≡_};
 ghost use Rattle.device.specs.Effect.{first-outside, WriteAll, CutLeaves};
-use base::number::BlockNo;
 use crate::Device;
 use crate::fault::Fault;
 use crate::put::Put;
+use base::number::BlockNo;
 
 // The first of the puts whose block a device of `count` blocks has not.
 fn outside(count: u16, puts: &[Put]) -> Option<BlockNo>

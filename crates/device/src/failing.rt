@@ -6,11 +6,11 @@ ghost use Rattle.device.specs.Failing.{failing, spent, Refuses, Fails, Passes,
 ghost use Rattle.device.specs.declared.fault.Fault.the-variants.{PowerGone};
 ghost use Rattle.std.specs.Orderings.{When};
 ghost use Rattle.std.specs.declared.result.Result.the-variants.{Err};
-use base::number::BlockNo;
 use crate::Device;
 use crate::fault::Fault;
 use crate::fault::Synced;
 use crate::fault::WHOLE;
+use base::number::BlockNo;
 
 #[derive(Drop)]
 pub struct Failing<D> {

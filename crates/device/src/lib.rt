@@ -5,9 +5,9 @@
 ghost use mathlib.Core.Path.{_≡_};
 ghost use Rattle.device.specs.Model.{Model};
 ghost use Rattle.device.specs.Answers.{Read, Write, Sync};
-use base::number::BlockNo;
 use crate::fault::Fault;
 use crate::fault::Synced;
+use base::number::BlockNo;
 
 pub mod effect;
 pub mod failing;

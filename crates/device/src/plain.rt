@@ -7,10 +7,10 @@ ghost use Rattle.device.specs.Answers.{Read, Write, Sync};
 ghost use Rattle.device.specs.Plain.{plain, block, blocks-in, stored, plain-read, plain-write, plain-after};
 ghost use Rattle.device.specs.declared.fault.Synced.the-variants.{Settled as SettledAnswer};
 ghost use Rattle.std.specs.declared.result.Result.the-variants.{Ok};
-use base::number::BlockNo;
 use crate::Device;
 use crate::fault::Fault;
 use crate::fault::Synced;
+use base::number::BlockNo;
 
 // The whole blocks of an image, at most 4096. What is left of the image is never touched.
 #[derive(Drop)]

@@ -116,8 +116,14 @@ mod tests {
         check_eq(card.write(BlockNo(2), &[2; 512]), Ok(()))?;
         check_eq(card.write(BlockNo(1), &[1; 512]), Ok(()))?;
         check_eq(card.sync(), Err(Fault::PowerGone(BlockNo(65535))))?;
-        check_eq(card.write(BlockNo(1), &[1; 512]), Err(Fault::PowerGone(BlockNo(1))))?;
-        check_eq(card.write(BlockNo(9), &[1; 512]), Err(Fault::PowerGone(BlockNo(9))))?;
+        check_eq(
+            card.write(BlockNo(1), &[1; 512]),
+            Err(Fault::PowerGone(BlockNo(1))),
+        )?;
+        check_eq(
+            card.write(BlockNo(9), &[1; 512]),
+            Err(Fault::PowerGone(BlockNo(9))),
+        )?;
         check(card.read(BlockNo(1)).is_err())?;
         check_eq(card.sync(), Err(Fault::PowerGone(BlockNo(65535))))
     }
@@ -128,7 +134,10 @@ mod tests {
         {
             let mut card = Plain::new(&mut image);
             check_eq(card.count(), 1)?;
-            check_eq(card.write(BlockNo(1), &[1; 512]), Err(Fault::NoSuchBlock(BlockNo(1))))?;
+            check_eq(
+                card.write(BlockNo(1), &[1; 512]),
+                Err(Fault::NoSuchBlock(BlockNo(1))),
+            )?;
             check_eq(card.write(BlockNo(0), &[1; 512]), Ok(()))?;
             check_eq(card.sync(), Ok(Synced::Settled))?;
         }

@@ -24,7 +24,11 @@ fn block_at(image: &[u8], n: usize) -> [u8; 512] {
 // A name as it may be printed: bytes that are no plain ASCII become '?'.
 fn print_name(rt: &LibcRuntime, name: &[u8]) -> Result<(), AnyError> {
     for b in name {
-        let c = if *b >= 32 && *b < 127 { *b as char } else { '?' };
+        let c = if *b >= 32 && *b < 127 {
+            *b as char
+        } else {
+            '?'
+        };
         print!(rt, "{c}")?;
     }
     Ok(())
@@ -50,7 +54,13 @@ fn print_slot(rt: &LibcRuntime, n: u16, kind: &str, slot: &Slot) -> Result<(), A
     Ok(())
 }
 
-fn print_body(rt: &LibcRuntime, n: u16, kind: &str, back: &Back, length: usize) -> Result<(), AnyError> {
+fn print_body(
+    rt: &LibcRuntime,
+    n: u16,
+    kind: &str,
+    back: &Back,
+    length: usize,
+) -> Result<(), AnyError> {
     let slot = back.owner.slot.0;
     let identity = back.owner.identity.0;
     let leaf = back.leaf.0;

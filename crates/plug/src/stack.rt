@@ -1,8 +1,8 @@
 // A stack of cards is written to and loses its power; then the blocks below are looked at, one by one.
+use crate::blocks::filling;
 use base::number::BlockNo;
 use buffered::buffered::Buffered;
 use buffered::buffered::BufferedDevice;
-use crate::blocks::filling;
 use device::Device;
 use device::failing::Failing;
 use device::failing::FailingDevice;
@@ -16,6 +16,7 @@ const BLOCKS: usize = 12;
 
 // The blocks that are written before the sync, and those after it.
 const FIRST: [u16; 3] = [2, 0, 1];
+
 const SECOND: [u16; 10] = [3, 4, 5, 6, 7, 8, 9, 10, 11, 0];
 
 // Writes after which the power goes.
