@@ -11,7 +11,7 @@ use base::owner::Handle;
 use base::owner::Kind;
 
 // Two bytes, low byte first.
-pub fn bytes16(n: u16) -> [u8; 2]
+pub(crate) fn bytes16(n: u16) -> [u8; 2]
     ensures { λ r. ⌜ r ≡ two n [] ⌝ }
 {
     n.to_le_bytes()
@@ -24,7 +24,7 @@ fn bytes32(n: u32) -> [u8; 4]
     n.to_le_bytes()
 }
 
-pub fn cover_head(blocks: u16, slots: u16) -> [u8; 6]
+pub(crate) fn cover_head(blocks: u16, slots: u16) -> [u8; 6]
     ensures { λ r. ⌜ r ≡ cover-head (geometry blocks slots) ⌝ }
 {
     let [n0, n1] = bytes16(blocks);
@@ -32,7 +32,7 @@ pub fn cover_head(blocks: u16, slots: u16) -> [u8; 6]
     [1, 1, n0, n1, s0, s1]
 }
 
-pub fn slot_head(kind: Kind, count: u16, identity: u32, parent: &Handle) -> [u8; 16]
+pub(crate) fn slot_head(kind: Kind, count: u16, identity: u32, parent: &Handle) -> [u8; 16]
     ensures { λ r. ⌜ r ≡ slot-head-bytes kind count identity (now (parent .entry)) ⌝ }
 {
     let k = match kind {
@@ -46,7 +46,7 @@ pub fn slot_head(kind: Kind, count: u16, identity: u32, parent: &Handle) -> [u8;
     [k, 0, c0, c1, i0, i1, i2, i3, p0, p1, p2, p3, s0, s1, 0, 0]
 }
 
-pub fn body_head(kind: u8, back: &Back, used: u16) -> [u8; 16]
+pub(crate) fn body_head(kind: u8, back: &Back, used: u16) -> [u8; 16]
     ensures { λ r. ⌜ r ≡ body-head-bytes kind (now (back .entry)) used ⌝ }
 {
     let [s0, s1] = bytes16(back.owner.slot.0);
@@ -56,7 +56,7 @@ pub fn body_head(kind: u8, back: &Back, used: u16) -> [u8; 16]
     [kind, 0, s0, s1, i0, i1, i2, i3, l0, l1, u0, u1, 0, 0, 0, 0]
 }
 
-pub fn entry_head(length: u8, child: &Handle) -> [u8; 8]
+pub(crate) fn entry_head(length: u8, child: &Handle) -> [u8; 8]
     ensures { λ r. ⌜ r ≡ entry-head-bytes length (now (child .entry)) ⌝ }
 {
     let [s0, s1] = bytes16(child.slot.0);
@@ -65,7 +65,7 @@ pub fn entry_head(length: u8, child: &Handle) -> [u8; 8]
 }
 
 // A head, what follows it, and zeros to the end.
-pub fn fill(out: &mut [u8], head: &[u8], rest: &[u8])
+pub(crate) fn fill(out: &mut [u8], head: &[u8], rest: &[u8])
     requires { ⌜ length (now head) + length (now rest) ≤ length (now out) ⌝ }
     ensures { λ _. ⌜ now (out .exit) ≡ now (head .entry) ++ padded (length (now (out .entry)) - length (now (head .entry))) (now (rest .entry)) ⌝ }
 {
