@@ -58,8 +58,9 @@ module _ (v : View) (h : Handle) (r : Slot) (b : ℕ) where
 pub among-more : (v : View) (h : Handle) (r : Slot) (b i m : ℕ) → good-among v h r b (from i (suc m)) ≡ (good-among v h r b (from i m) || (good v h r (i + m) && eqb b (number r (i + m))))
 among-more v h r b i m = or-test (good-among v h r b (from i (suc m))) (good-among v h r b (from i m)) (good v h r (i + m) && eqb b (number r (i + m)))
     (λ e. let w = among-true v h r b i (suc m) e in elim (cases-eq (w .0) (i + m)) [
-        inl q ↦ inr (subst (λ (k : ℕ). (good v h r k && eqb b (number r k)) ≡ true) q (and-from (good v h r (w .0)) (eqb b (number r (w .0))) (w .3) (eq-eqb b (number r (w .0)) (w .4))))
-      | inr ne ↦ inl (among-from v h r b i m (w .0) (w .1) (let l = w .2 in omega arith) (w .3) (w .4)) ])
+      | inl q ↦ inr (subst (λ (k : ℕ). (good v h r k && eqb b (number r k)) ≡ true) q (and-from (good v h r (w .0)) (eqb b (number r (w .0))) (w .3) (eq-eqb b (number r (w .0)) (w .4))))
+      | inr ne ↦ inl (among-from v h r b i m (w .0) (w .1) (let l = w .2 in omega arith) (w .3) (w .4))
+    ])
     (λ e. let w = among-true v h r b i m e in among-from v h r b i (suc m) (w .0) (w .1) (let l = w .2 in omega arith) (w .3) (w .4))
     (λ e. let w = and-parts (good v h r (i + m)) (eqb b (number r (i + m))) e in among-from v h r b i (suc m) (i + m) (omega arith) (omega arith) (w .0) (eqb-true b (number r (i + m)) (w .1)))
 
