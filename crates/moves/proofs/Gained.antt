@@ -15,13 +15,14 @@ use Rattle.base.specs.declared.owner.Kind.the-variants.{File, Folder}
 use Rattle.base.specs.declared.owner.Handle.{Handle}
 use Rattle.base.specs.declared.owner.Back.{Back}
 use Rattle.layout.specs.Format.{Name, Cell, Geometry, handle, back, Slot, Content, slotted, folder-body, entry, entry-of}
-use Rattle.rule.specs.Agree.{View, count, number, back-in, reached, held}
+use Rattle.rule.specs.Agree.{View, count, number, back-in, reached, held, first, those, round, slots-of, bodies-of}
 use Rattle.rule.specs.Changing.{grown}
 use Rattle.rule.specs.Meaning.{Fits, Body, Good, Sound, Reached, under, Held, Rooted}
 use Rattle.rule.specs.Calls.{SoundAt}
 use Rattle.rule.proofs.Means.{reached-is-reached, held-is-held, same-slot}
 use Rattle.history.proofs.Parsed.{entry-child, slotted-same}
 use Rattle.history.proofs.Puts.{grown-below, grown-count}
+use Rattle.moves.specs.Moves.{Marks-serve}
 use Rattle.moves.proofs.Views.{upd, upd-here, upd-else, Framed, fits-else, Moves, Nothing, reached-on, reached-back, held-on, held-back}
 use Rattle.moves.proofs.Steps.{body-fits, body-fits-back, cell-written}
 use Rattle.moves.proofs.Slots.{Longer, reached-up, reached-down, held-up, held-down, extra-held}
@@ -247,3 +248,19 @@ module _ (g : Geometry) (v : View) (f : Handle) (r : Slot) (k p b : ℕ) (es : L
     held-back = λ x w. inl (held-back g v entered (λ h. h ≡ a) moves x w);
     taken = λ x q. absurd q;
   }
+
+-- ---- marks in place of the blocks
+
+pub marks-serve : Marks-serve
+marks-serve g v slots bodies m = (
+  (λ at. ap (λ (p : ℕ → Bool). first p (round 0 (g .slots) at)) free-s),
+  (λ at. ap (λ (p : ℕ → Bool). first p (round (suc (g .slots)) (g .blocks) at)) free-b),
+  ap (λ (p : ℕ → Bool). length (those p (slots-of g))) free-s,
+  ap (λ (p : ℕ → Bool). length (those p (bodies-of g))) free-b,
+)
+  where
+    free-s : _≡_ {A = ℕ → Bool} (λ s. not (reached g v s)) (λ s. not (slots s))
+    free-s = λ i s. not (m .reached s i)
+
+    free-b : _≡_ {A = ℕ → Bool} (λ b. not (held g v b)) (λ b. not (bodies b))
+    free-b = λ i b. not (m .held b i)

@@ -13,16 +13,19 @@ use Rattle.base.specs.declared.owner.Kind.the-variants.{Folder}
 use Rattle.base.specs.declared.owner.Handle.{Handle}
 use Rattle.device.specs.Model.{Block, put}
 use Rattle.layout.specs.Format.{Name, Cell, Geometry, back, Slot, Content, blank, slotted, file-body, folder-body, entry, in-limits, body-number, all-bodies, plain-bytes, good-name, cell, blank-cell, parse, encode, entry-of}
-use Rattle.layout.specs.Identities.{entry-identity, told}
+use Rattle.layout.specs.Identities.{entry-told, told}
+use Rattle.layout.specs.Laws.{SlotFits, BackFits, whole-cells}
+use Rattle.layout.proofs.Back.{read-back, entry-back, set-whole}
 use Rattle.rule.specs.Agree.{Shown, View, seen, same-kind, same-handle, slot-in, count, number, root}
 use Rattle.rule.specs.Card.{Card, is-root}
-use Rattle.rule.specs.Changing.{grown, cut-to, new-slot, last-identity}
+use Rattle.rule.specs.Changing.{with-numbers, grown, cut-to, new-slot, last-identity}
 use Rattle.rule.specs.Meaning.{Fits, Rooted}
 use Rattle.rule.proofs.Steps.{some-is-true}
 use Rattle.rule.proofs.Means.{slot-in-some}
-use Rattle.history.proofs.Trips.{Formed, Backed, slot-trip, file-trip, folder-trip, blank-trip, entry-trip, cell-length, slot-whole, file-whole, folder-whole, blank-whole}
-use Rattle.history.proofs.Parsed.{slot-parsed, folder-parsed, body-at, set-cells, blank-cells}
-use Rattle.history.proofs.Stands.{told-own, told-parent, highest-set, highest-blank}
+use Rattle.rule.proofs.Formed.{Slot-formed, slot-formed, body-at}
+use Rattle.history.proofs.Written.{slot-lies, body-lies, cell-length, blank-cells, slot-whole, file-whole, folder-whole, blank-whole}
+use Rattle.history.proofs.Parsed.{folder-parsed}
+use Rattle.history.proofs.Stands.{told-own, told-parent, highest-set, highest-new, Limits}
 use Rattle.history.proofs.Puts.{grown-count}
 use Rattle.moves.specs.Tied.{Tied}
 use Rattle.moves.proofs.Views.{upd, Framed}
@@ -86,18 +89,18 @@ bodies-take g zero xs e = refl
 bodies-take g (suc n) [] e = refl
 bodies-take g (suc n) (x ∷ xs) e = let p = and-parts (body-number g x) (all-bodies g xs) e in and-from _ _ (p .0) (bodies-take g n xs (p .1))
 
-pub record Limits (g : Geometry) : Type 0 where
-  pub low : 2 ≤ g .slots
-  pub thin : g .slots ≤ 256
-  pub bodies : g .slots + 2 ≤ g .blocks
-  pub small : g .blocks ≤ 4096
-
 pub limits-of : (g : Geometry) → in-limits (g .blocks) (g .slots) ≡ true → Limits g
 limits-of g e =
     let a = and-parts (leb 2 (g .slots)) (leb (g .slots) 256 && (leb (g .slots + 2) (g .blocks) && leb (g .blocks) 4096)) e in
     let b = and-parts (leb (g .slots) 256) (leb (g .slots + 2) (g .blocks) && leb (g .blocks) 4096) (a .1) in
     let c = and-parts (leb (g .slots + 2) (g .blocks)) (leb (g .blocks) 4096) (b .1) in
-    record { low = leb-true 2 (g .slots) (a .0); thin = leb-true (g .slots) 256 (b .0); bodies = leb-true (g .slots + 2) (g .blocks) (c .0); small = leb-true (g .blocks) 4096 (c .1) }
+    record {
+      low = leb-true 2 (g .slots) (a .0);
+      thin = leb-true (g .slots) 256 (b .0);
+      bodies = (let w = leb-true (g .slots + 2) (g .blocks) (c .0) in omega arith);
+      small = leb-true (g .blocks) 4096 (c .1);
+      within = e;
+    }
 
 module _ (g : Geometry) (c : Card) (shown : Shown) (tied : Tied g c shown) where
   abbrev v : View
@@ -119,8 +122,8 @@ module _ (g : Geometry) (c : Card) (shown : Shown) (tied : Tied g c shown) where
       let b = and-parts (eqb (w .0 .identity) 1) (same-handle (w .0 .parent) root) (a .1) in
       (w .0, record { inside = (let l = limits .low in omega arith); holds = slot-in-some (v 1) (w .0) (w .1); same = eqb-true (w .0 .identity) 1 (b .0) })
 
-  fits-formed : (h : Handle) (r : Slot) → Fits g v h r → Formed g r
-  fits-formed h r f = slot-parsed g (h .slot .0) (shown (suc (h .slot .0))) r (f .inside) (f .holds)
+  formed : (h : Handle) (r : Slot) → Fits g v h r → Slot-formed g (suc (h .slot .0)) r
+  formed h r f = slot-formed g (suc (h .slot .0)) (shown (suc (h .slot .0))) r (f .holds)
 
   slot-low : (h : Handle) (r : Slot) → Fits g v h r → told g (slotted r) ≤ high
   slot-low h r f = subst (λ (y : Content). told g y ≤ high) (f .holds) (tied .counted (suc (h .slot .0)))
@@ -129,85 +132,100 @@ module _ (g : Geometry) (c : Card) (shown : Shown) (tied : Tied g c shown) where
   handle-low h r f = let a = slot-low h r f in let b = told-own g r in let c = f .same in omega arith
 
   handle-own : (h : Handle) (r : Slot) → Fits g v h r → 1 ≤ h .identity .0
-  handle-own h r f = let a = fits-formed h r f .own in let c = f .same in omega arith
+  handle-own h r f = let a = formed h r f .identity in let c = f .same in omega arith
 
   pub leaf-block : (h : Handle) (r : Slot) (k : ℕ) → Fits g v h r → k < count r → (g .slots < number r k) × (number r k < g .blocks)
-  leaf-block h r k f l = body-at g (r .numbers) k (fits-formed h r f .bodies) l
+  leaf-block h r k f l = body-at g (r .numbers) k (formed h r f .numbers) l
 
   pub framed : Framed g v
   framed h r k f l = leaf-block h r k f l .0
 
-  backed : (h : Handle) (r : Slot) (k : ℕ) → Fits g v h r → k < 64 → Backed g (back h k)
-  backed h r k f l = record { inside = f .inside; own = handle-own h r f; narrow = (let a = handle-low h r f in let b = tied .narrow in omega arith); leaf = l }
+  backed : (h : Handle) (r : Slot) (k : ℕ) → Fits g v h r → k < 64 → BackFits g (back h k)
+  backed h r k f l = record { slot = f .inside; own = (handle-own h r f, (let a = handle-low h r f in let b = tied .narrow in omega arith)); leaf = l }
 
   -- a slot with other numbers
   slot-lands : (top : ℕ) (h : Handle) (r : Slot) (ns : List ℕ) → high ≤ top → Fits g v h r → length ns ≤ 64 → all-bodies g ns ≡ true →
-      Lands g top (suc (h .slot .0)) (slotted (record { kind = r .kind; identity = r .identity; parent = r .parent; numbers = ns }))
+      Lands g top (suc (h .slot .0)) (slotted (with-numbers r ns))
   slot-lands top h r ns up f few bodies = record {
-    parses = slot-trip g (limits .thin) (limits .small) (suc (h .slot .0)) again (omega arith) (f .inside) formed
-        (let a = slot-low h r f in let c = told-own g r in let n = tied .narrow in omega arith) (let a = slot-low h r f in let c = told-parent g r in let n = tied .narrow in omega arith);
+    parses = read-back g (tied .limits) (slotted (with-numbers r ns)) (suc (h .slot .0)) (slot-lies g (suc (h .slot .0)) (omega arith) (f .inside), fits);
     counted = (let a = slot-low h r f in omega arith);
-    whole = slot-whole again few;
+    whole = slot-whole (with-numbers r ns) few;
   }
     where
-      again : Slot
-      again = record { kind = r .kind; identity = r .identity; parent = r .parent; numbers = ns }
-
-      formed : Formed g again
-      formed = let o = fits-formed h r f in record { few = few; own = o .own; named = o .named; inside = o .inside; bodies = bodies }
+      fits : SlotFits g (with-numbers r ns)
+      fits =
+          let o = formed h r f in
+          let a = slot-low h r f in
+          let n = tied .narrow in
+          record {
+            few = few;
+            own = (o .identity, (let c = told-own g r in omega arith));
+            parent = (o .parent-identity, (let c = told-parent g r in omega arith));
+            parent-slot = o .parent;
+            bodies = bodies;
+          }
 
   pub grown-lands : (top : ℕ) (h : Handle) (r : Slot) (i : ℕ) → high ≤ top → Fits g v h r → count r < 64 → g .slots < i → i < g .blocks → Lands g top (suc (h .slot .0)) (slotted (grown r i))
   grown-lands top h r i up f room above inside =
-      slot-lands top h r (r .numbers ++ (i ∷ [])) up f (let a = grown-count r i in omega arith) (bodies-push g (r .numbers) i (fits-formed h r f .bodies) above inside)
+      slot-lands top h r (r .numbers ++ (i ∷ [])) up f (let a = grown-count r i in omega arith) (bodies-push g (r .numbers) i (formed h r f .numbers) above inside)
 
   pub cut-lands : (h : Handle) (r : Slot) (n : ℕ) → Fits g v h r → Lands g high (suc (h .slot .0)) (slotted (cut-to r n))
   cut-lands h r n f =
-      slot-lands high h r (take n (r .numbers)) (omega arith) f (let a = length-take n (r .numbers) in let w = fits-formed h r f .few in omega arith) (bodies-take g n (r .numbers) (fits-formed h r f .bodies))
+      slot-lands high h r (take n (r .numbers)) (omega arith) f (let a = length-take n (r .numbers) in let w = formed h r f .count in omega arith) (bodies-take g n (r .numbers) (formed h r f .numbers))
 
   pub file-lands : (h : Handle) (r : Slot) (k b : ℕ) (x : List ℕ) → Fits g v h r → k < 64 → length x ≤ 496 → g .slots < b → b < g .blocks → Lands g high b (file-body (back h k) x)
   file-lands h r k b x f l size above inside = record {
-    parses = file-trip g (limits .thin) (limits .small) b (back h k) x above inside (backed h r k f l) size;
+    parses = read-back g (tied .limits) (file-body (back h k) x) b (body-lies g b above inside, backed h r k f l, size);
     counted = handle-low h r f;
     whole = file-whole (back h k) x size;
   }
 
   -- a folder body with one cell written over
   pub cell-lands : (top : ℕ) (h : Handle) (r : Slot) (k p : ℕ) (es : List Cell) (e : Cell) → high ≤ top → Fits g v h r → k < count r → v (number r k) ≡ folder-body (back h k) es →
-      length e ≡ 32 → entry-identity (entry-of g e) ≤ top → Lands g top (number r k) (folder-body (back h k) (set es p e))
+      length e ≡ 32 → entry-told (entry-of g e) ≤ top → Lands g top (number r k) (folder-body (back h k) (set es p e))
   cell-lands top h r k p es e up f l stood le low =
       let at = leaf-block h r k f l in
       let cs = folder-parsed g (number r k) (shown (number r k)) (back h k) es (at .0) (at .1) (tied .whole (number r k) (let a = at .0 in omega arith) (at .1)) stood in
-      let few = fits-formed h r f .few in
+      let few = formed h r f .count in
       let old : told g (folder-body (back h k) es) ≤ high = subst (λ (y : Content). told g y ≤ high) stood (tied .counted (number r k)) in
       record {
-        parses = folder-trip g (limits .thin) (limits .small) (number r k) (back h k) (set es p e) (at .0) (at .1) (backed h r k f (omega arith)) (length-set es p e ∙ cs .0) (set-cells es p e (cs .1) le);
+        parses = read-back g (tied .limits) (folder-body (back h k) (set es p e)) (number r k) (body-lies g (number r k) (at .0) (at .1), backed h r k f (omega arith), length-set es p e ∙ cs .0, set-whole es p e le (cs .1));
         counted = (let w = highest-set g es p e top low (omega arith) in let a = handle-low h r f in omega arith);
-        whole = folder-whole (back h k) (set es p e) (length-set es p e ∙ cs .0) (set-cells es p e (cs .1) le);
+        whole = folder-whole (back h k) (set es p e) (length-set es p e ∙ cs .0) (set-whole es p e le (cs .1));
       }
 
   -- a new folder body with one entry
   pub leaf-lands : (top : ℕ) (h : Handle) (r : Slot) (b : ℕ) (e : Cell) → high ≤ top → Fits g v h r → count r < 64 → g .slots < b → b < g .blocks →
-      length e ≡ 32 → entry-identity (entry-of g e) ≤ top → Lands g top b (folder-body (back h (count r)) (e ∷ replicate 14 blank-cell))
+      length e ≡ 32 → entry-told (entry-of g e) ≤ top → Lands g top b (folder-body (back h (count r)) (e ∷ replicate 14 blank-cell))
   leaf-lands top h r b e up f room above inside le low = record {
-    parses = folder-trip g (limits .thin) (limits .small) b (back h (count r)) (e ∷ replicate 14 blank-cell) above inside (backed h r (count r) f room) refl (le, blank-cells 14);
-    counted = (let w = highest-blank g 14 in let a = handle-low h r f in omega arith);
-    whole = folder-whole (back h (count r)) (e ∷ replicate 14 blank-cell) refl (le, blank-cells 14);
+    parses = read-back g (tied .limits) (folder-body (back h (count r)) (e ∷ replicate 14 blank-cell)) b (body-lies g b above inside, backed h r (count r) f room, refl, cells);
+    counted = (let w = highest-new g e 14 top low in let a = handle-low h r f in omega arith);
+    whole = folder-whole (back h (count r)) (e ∷ replicate 14 blank-cell) refl cells;
   }
+    where
+      cells : whole-cells (e ∷ replicate 14 blank-cell) ≡ true
+      cells = and-from _ _ (eq-eqb (length e) 32 le) (blank-cells 14)
 
   -- the slot of a new child of f
   pub new-lands : (d : Kind) (f : Handle) (r : Slot) (s : ℕ) → Fits g v f r → s < g .slots → high < last-identity → Lands g (suc high) (suc s) (slotted (new-slot d f (suc high)))
   new-lands d f r s fit inside room = record {
-    parses = slot-trip g (limits .thin) (limits .small) (suc s) (new-slot d f (suc high)) (omega arith) inside formed (omega arith) (let b = handle-low f r fit in omega arith);
+    parses = read-back g (tied .limits) (slotted (new-slot d f (suc high))) (suc s) (slot-lies g (suc s) (omega arith) inside, fits);
     counted = (let b = handle-low f r fit in omega arith);
     whole = slot-whole (new-slot d f (suc high)) (omega arith);
   }
     where
-      formed : Formed g (new-slot d f (suc high))
-      formed = record { few = omega arith; own = omega arith; named = handle-own f r fit; inside = fit .inside; bodies = refl }
+      fits : SlotFits g (new-slot d f (suc high))
+      fits = record {
+        few = omega arith;
+        own = (omega arith, omega arith);
+        parent = (handle-own f r fit, (let b = handle-low f r fit in omega arith));
+        parent-slot = fit .inside;
+        bodies = refl;
+      }
 
   pub blank-lands : (s : ℕ) → s < g .slots → Lands g high (suc s) blank
   blank-lands s inside = record {
-    parses = blank-trip g (limits .thin) (limits .small) (suc s) (omega arith) (let w = limits .bodies in omega arith);
+    parses = read-back g (tied .limits) blank (suc s) (inl (slot-lies g (suc s) (omega arith) inside));
     counted = omega arith;
     whole = blank-whole;
   }
@@ -222,4 +240,4 @@ module _ (g : Geometry) (c : Card) (shown : Shown) (tied : Tied g c shown) where
   entry-size n a e = cell-length n a (name-short n e)
 
   pub entry-new : (n : Name) (a : Handle) → good-name n ≡ true → 0 < a .slot .0 → a .slot .0 < g .slots → a .identity .0 ≡ suc high → high < last-identity → entry-of g (cell n a) ≡ entry n a
-  entry-new n a e above inside own room = entry-trip g (limits .thin) (limits .small) n a e above inside (omega arith) (omega arith)
+  entry-new n a e above inside own room = entry-back g (tied .limits) n a e (record { from-one = above; slot = inside; own = (omega arith, omega arith) })

@@ -13,8 +13,10 @@ use Rattle.base.specs.declared.owner.Kind.the-variants.{Folder}
 use Rattle.base.specs.declared.owner.Handle.{Handle}
 use Rattle.device.specs.declared.put.Put.{Put}
 use Rattle.device.specs.Effect.{puts}
-use Rattle.layout.specs.Format.{Geometry, handle, Slot, Content, blank, cover, slotted, cover-of, in-limits, parse, encode}
+use Rattle.layout.specs.Format.{Geometry, handle, Slot, Content, blank, cover, slotted, in-limits, parse, encode}
 use Rattle.layout.specs.Identities.{told}
+use Rattle.layout.specs.Laws.{SlotFits}
+use Rattle.layout.proofs.Back.{read-back}
 use Rattle.rule.specs.Agree.{Shown, View, seen, same-kind, same-handle, count, root, reached, held}
 use Rattle.rule.specs.Card.{Ready, Card, is-root, opening, opened, ended-by, surveyed}
 use Rattle.rule.specs.Changing.{new-slot, last-identity, format}
@@ -26,10 +28,11 @@ use Rattle.rule.proofs.Means.{reached-is-reached, held-is-held, same-slot}
 use Rattle.rule.proofs.Blocks.{format-means}
 use Rattle.rule.proofs.Formed.{cover-limits}
 use Rattle.rule.proofs.Answered.{kind-same, opening-means, survey-covers, cursors-start}
-use Rattle.history.proofs.Trips.{Formed, slot-trip, blank-trip, cover-trip, parse-cover, parse-beyond, slot-whole}
+use Rattle.history.proofs.Written.{slot-lies, body-lies, parse-cover, parse-beyond, slot-whole}
+use Rattle.history.proofs.Stands.{Limits}
 use Rattle.moves.specs.Tied.{Tied, Tied-starts, sized, new-card, Format-ties}
 use Rattle.moves.specs.Moves.{Marked, Format-moves}
-use Rattle.moves.proofs.Lands.{Limits, limits-of}
+use Rattle.moves.proofs.Lands.{limits-of}
 use Rattle.moves.proofs.Gained.{same-test}
 
 root-is : (y : Content) (r : Slot) → y ≡ slotted r → r .kind ≡ Folder → r .identity ≡ 1 → r .parent ≡ root → is-root y ≡ true
@@ -97,20 +100,22 @@ module _ (n N S : ℕ) (ws : List Put) (before : Shown) (plan : format n N S ≡
   limits = let s = does .slots in let t = does .blocks in
       and-from (leb 2 S) _ (le-leb 2 S (s .0)) (and-from (leb S 256) _ (le-leb S 256 (s .1)) (and-from (leb (S + 2) N) _ (le-leb (S + 2) N (t .0)) (le-leb N 4096 (t .1))))
 
-  formed : Formed g top
-  formed = record { few = omega arith; own = omega arith; named = omega arith; inside = (let s = does .slots in omega arith); bodies = refl }
+  fits : SlotFits g top
+  fits = record { few = omega arith; own = (omega arith, omega arith); parent = (omega arith, omega arith); parent-slot = (let s = does .slots in omega arith); bodies = refl }
 
   at-root : v 1 ≡ slotted top
-  at-root = ap (parse g 1) (does .root before) ∙ slot-trip g (does .slots .1) (does .blocks .1) 1 top (omega arith) (let s = does .slots in omega arith) formed (omega arith) (omega arith)
+  at-root = ap (parse g 1) (does .root before) ∙ read-back g limits (slotted top) 1 (slot-lies g 1 (omega arith) (let s = does .slots in omega arith), fits)
 
   at-zero : (b : ℕ) → 1 < b → b < N → v b ≡ blank
   unfolding encode
-  at-zero b up low = ap (parse g b) (does .zeros before b up low) ∙ blank-trip g (does .slots .1) (does .blocks .1) b (omega arith) low
+  at-zero b up low =
+      ap (parse g b) (does .zeros before b up low)
+      ∙ read-back g limits blank b (elim (cases-lt S b) [ inl far ↦ inr (body-lies g b far low) | inr near ↦ inl (slot-lies g b (omega arith) near) ])
 
   new-opens : opening n shown ≡ Ok g
   new-opens = opening-means n shown g .1 (record {
     some = (let t = does .blocks in let r = does .room in omega arith);
-    cover = ap cover-of (does .cover before) ∙ cover-trip g (does .slots .1) (does .blocks .1) limits;
+    cover = sym (parse-cover g (shown 0)) ∙ ap (parse g 0) (does .cover before) ∙ read-back g limits (cover g) 0 (refl, limits);
     room = does .room;
     top = top;
     fits = record { inside = (let s = does .slots in omega arith); holds = at-root; same = refl };

@@ -13,7 +13,7 @@ use Rattle.device.specs.Model.{put}
 use Rattle.device.specs.declared.put.Put.{Put}
 use Rattle.device.specs.Effect.{puts}
 use Rattle.layout.specs.Format.{Name, Geometry, back, Slot, Content, blank, slotted, file-body, folder-body, entry, entry-of, cell, blank-cell, encode}
-use Rattle.layout.specs.Identities.{entry-identity}
+use Rattle.layout.specs.Identities.{entry-told}
 use Rattle.rule.specs.Agree.{Shown, View, seen, count, number}
 use Rattle.rule.specs.Card.{Card, Plan, is-root}
 use Rattle.rule.specs.Changing.{grown, cut-to, new-slot, last-identity, create, write, shorten, remove}
@@ -23,7 +23,7 @@ use Rattle.rule.specs.Readings.{InRange}
 use Rattle.rule.proofs.Plans.{ok-same, create-means, write-means, shorten-means, remove-means}
 use Rattle.rule.proofs.Answered.{create-keeps-range, write-keeps-range}
 use Rattle.history.proofs.Parsed.{blank-entry, child-parsed}
-use Rattle.history.proofs.Stands.{entry-identity-of}
+use Rattle.history.proofs.Stands.{entry-tells}
 use Rattle.moves.specs.Tied.{Tied, Create-stays-tied, Write-stays-tied, Shorten-stays-tied, Remove-stays-tied}
 use Rattle.moves.proofs.Lands.{Lands, Fine, fine-put, limits-of, fine, rooted, leaf-block, grown-lands, cut-lands, file-lands, cell-lands, leaf-lands, new-lands, blank-lands, entry-size, entry-new}
 
@@ -95,8 +95,8 @@ module _ (g : Geometry) (c : Card) (shown : Shown) (tied : Tied g c shown) where
     pub new-entry : entry-of g (cell n a) ≡ entry n a
     new-entry = entry-new g c shown tied n a (w .name) (w .child) (w .free .inside) (w .fresh) (w .narrow)
 
-    entry-low : entry-identity (entry-of g (cell n a)) ≤ suc high
-    entry-low = let e = entry-identity-of (entry-of g (cell n a)) n a new-entry in let o = w .fresh in omega arith
+    entry-low : entry-told (entry-of g (cell n a)) ≤ suc high
+    entry-low = let e = entry-tells (entry-of g (cell n a)) n a new-entry in let o = w .fresh in omega arith
 
     pub child-lands : Lands g (suc high) (suc (a .slot .0)) (slotted (new-slot d f (a .identity .0)))
     child-lands = subst (λ (i : ℕ). Lands g (suc high) (suc (a .slot .0)) (slotted (new-slot d f i))) (sym (w .fresh)) (new-lands g c shown tied d f (w .slot) (a .slot .0) (w .standing .fits) (w .free .inside) (w .narrow))
@@ -138,7 +138,7 @@ module _ (g : Geometry) (c : Card) (shown : Shown) (tied : Tied g c shown) where
 
     pub hole-lands : Lands g high (number (w .found .sound .slot) (w .found .leaf)) (folder-body (back f (w .found .leaf)) (set (w .found .sound .cells) (w .found .place) blank-cell))
     hole-lands = let x = w .found .sound in
-        cell-lands g c shown tied high f (x .slot) (w .found .leaf) (w .found .place) (x .cells) blank-cell (omega arith) (x .fits) (x .below) (x .body) refl (let e = ap entry-identity (blank-entry g) in omega arith)
+        cell-lands g c shown tied high f (x .slot) (w .found .leaf) (w .found .place) (x .cells) blank-cell (omega arith) (x .fits) (x .below) (x .body) refl (let e = ap entry-told (blank-entry g) in omega arith)
 
     pub gone-lands : Lands g high (suc (h .slot .0)) blank
     gone-lands = blank-lands g c shown tied (h .slot .0) (w .found .sound .child-fits .inside)

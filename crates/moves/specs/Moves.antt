@@ -1,8 +1,9 @@
 -- How the reached slots and the held bodies move under each accepted changing call: what joins, what leaves, and nothing else.
-use Prim.Native.Nat.{ℕ, _-_}
+use Prim.Native.Nat.{ℕ, suc, _-_}
 use mathlib.Core.Path.{_≡_}
 use mathlib.Core.List.{List, [], _∷_}
 use mathlib.Core.Bool.{Bool, false, cond, not, _&&_, _||_}
+use lib.ListN.{length}
 use lib.Dec.{eqb, ltb}
 use Rattle.std.specs.declared.option.Option.{Option}
 use Rattle.std.specs.declared.option.Option.the-variants.{Some, None}
@@ -12,7 +13,7 @@ use Rattle.base.specs.declared.owner.Handle.{Handle}
 use Rattle.device.specs.declared.put.Put.{Put}
 use Rattle.device.specs.Effect.{puts}
 use Rattle.layout.specs.Format.{Name, Geometry, Slot, entry-of}
-use Rattle.rule.specs.Agree.{Shown, View, seen, slot-at, count, number, good, Place, found, from, some-is, reached, held, free-body}
+use Rattle.rule.specs.Agree.{Shown, View, seen, slot-at, count, number, good, Place, found, first, those, from, some-is, reached, held, slots-of, bodies-of, free-slots, free-bodies, round, free-slot, free-body}
 use Rattle.rule.specs.Card.{Card, Plan}
 use Rattle.rule.specs.Reading.{child-of}
 use Rattle.rule.specs.Changing.{open-place, create, write, shorten, remove, format}
@@ -22,6 +23,14 @@ use Rattle.moves.specs.Tied.{Tied, sized}
 pub record Marked (g : Geometry) (v : View) (slots bodies : ℕ → Bool) : Type 0 where
   pub reached : (s : ℕ) → reached g v s ≡ slots s
   pub held : (b : ℕ) → held g v b ≡ bodies b
+
+-- marks that agree with the blocks shown serve in their place: to choose what is free, and to count it
+abbrev pub Marks-serve : Type 0
+Marks-serve = (g : Geometry) (v : View) (slots bodies : ℕ → Bool) → Marked g v slots bodies →
+    ((at : ℕ) → free-slot g v at ≡ first (λ s. not (slots s)) (round 0 (g .slots) at))
+    × ((at : ℕ) → free-body g v at ≡ first (λ b. not (bodies b)) (round (suc (g .slots)) (g .blocks) at))
+    × (free-slots g v ≡ length (those (λ s. not (slots s)) (slots-of g)))
+    × (free-bodies g v ≡ length (those (λ b. not (bodies b)) (bodies-of g)))
 
 -- ---- create and write: what joins
 

@@ -16,8 +16,8 @@ use Rattle.rule.specs.Card.{Card, Plan, is-root, opened, opening, surveyed}
 use Rattle.rule.specs.Changing.{last-identity, create, write, shorten, remove, format}
 use Rattle.rule.specs.Readings.{InRange}
 
--- the card is of geometry g, its root is good, no shown block tells an identity above the highest, and the cursors are in range.
--- A block has 512 bytes, of which a folder's entries need all
+-- the card is of geometry g and its root is good; no shown block tells an identity above the highest, which has 32 bits;
+-- the cursors are in range; and every block is whole, so that a folder body that is written again keeps its other entries
 pub record Tied (g : Geometry) (c : Card) (shown : Shown) : Type 0 where
   pub limits : in-limits (g .blocks) (g .slots) ≡ true
   pub ready : c .ready ≡ Ok g
@@ -27,7 +27,7 @@ pub record Tied (g : Geometry) (c : Card) (shown : Shown) : Type 0 where
   pub range : InRange g c
   pub whole : (b : ℕ) → 0 < b → b < g .blocks → length (shown b) ≡ 512
 
--- so it is when the survey has ended
+-- so it is when the survey of a card that opened has ended
 abbrev pub Tied-starts : Type 0
 Tied-starts = (n : ℕ) (shown : Shown) (g : Geometry) → opening n shown ≡ Ok g → surveyed (opened n shown) shown .highest ≤ last-identity →
     ((b : ℕ) → 0 < b → b < g .blocks → length (shown b) ≡ 512) → Tied g (surveyed (opened n shown) shown) shown
