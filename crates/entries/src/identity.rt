@@ -64,10 +64,10 @@ fn tell(g: &Geometry, block: &Block) -> u32
 }
 
 // The highest identity that block `at` tells, or 0: a slot's own and its parent's, a body's owner's, an entry's child's.
-pub fn highest_told(g: &Geometry, at: BlockNo, block: &[u8; 512]) -> u32
-    ensures told { λ r. ⌜ r ≡ told (sizes (now (g .entry))) (parsed (sizes (now (g .entry))) (at .0) (now (block .entry))) ⌝ }
-    ensures above { λ r. ⌜ ((i : ℕ) → Tells (sizes (now (g .entry))) (parsed (sizes (now (g .entry))) (at .0) (now (block .entry))) i → i ≤ r) ⌝ }
-    ensures attained { λ r. ⌜ (r ≡ 0) ⊎ Tells (sizes (now (g .entry))) (parsed (sizes (now (g .entry))) (at .0) (now (block .entry))) r ⌝ }
+pub fn highest_told(g: &Geometry, at: BlockNo, block: &[u8; 512]) -> Identity
+    ensures told { λ r. ⌜ r .0 ≡ told (sizes (now (g .entry))) (parsed (sizes (now (g .entry))) (at .0) (now (block .entry))) ⌝ }
+    ensures above { λ r. ⌜ ((i : ℕ) → Tells (sizes (now (g .entry))) (parsed (sizes (now (g .entry))) (at .0) (now (block .entry))) i → i ≤ r .0) ⌝ }
+    ensures attained { λ r. ⌜ (r .0 ≡ 0) ⊎ Tells (sizes (now (g .entry))) (parsed (sizes (now (g .entry))) (at .0) (now (block .entry))) (r .0) ⌝ }
 {
-    tell(g, &parse(g, at, block))
+    Identity(tell(g, &parse(g, at, block)))
 }

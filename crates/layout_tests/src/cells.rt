@@ -109,8 +109,8 @@ fn told() -> Result<(), Fail> {
     };
     let mut block = [7; 512];
     check(encode_folder_change(&mut block, &back, &[0; 480], 14, &last))?;
-    check_eq(highest_told(&g, BlockNo(4), &block), 70000)?;
-    check_eq(highest_told(&g, BlockNo(3), &block), 0)?;
+    check_eq(highest_told(&g, BlockNo(4), &block).0, 70000)?;
+    check_eq(highest_told(&g, BlockNo(3), &block).0, 0)?;
     check(cell_bytes(&block[16..496], 14) == Some(&block[464..496]))?;
     check(cell_bytes(&block[16..496], 15).is_none())
 }
