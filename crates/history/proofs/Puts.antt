@@ -34,11 +34,11 @@ use Rattle.history.proofs.Log.{did, MadeIn, same-apart}
 use Rattle.history.proofs.Stands.{May, view, may-shown, told-own, told-parent, told-entry, entry-tells, highest-set, highest-new, set-cases, blank-at, Logged, Inv}
 use Rattle.history.proofs.Sorts.{Allowed, fresh-slot, slot-again, slot-blanked, fresh-body, file-again, folder-again, Fair}
 
-bodies-push : (g : Geometry) (xs : List ℕ) (b : ℕ) → all-bodies g xs ≡ true → g .slots < b → b < g .blocks → all-bodies g (xs ++ (b ∷ [])) ≡ true
+pub bodies-push : (g : Geometry) (xs : List ℕ) (b : ℕ) → all-bodies g xs ≡ true → g .slots < b → b < g .blocks → all-bodies g (xs ++ (b ∷ [])) ≡ true
 bodies-push g [] b e up low = and-from _ _ (and-from _ _ (lt-ltb (g .slots) b up) (lt-ltb b (g .blocks) low)) refl
 bodies-push g (x ∷ xs) b e up low = let p = and-parts (body-number g x) (all-bodies g xs) e in and-from _ _ (p .0) (bodies-push g xs b (p .1) up low)
 
-bodies-take : (g : Geometry) (n : ℕ) (xs : List ℕ) → all-bodies g xs ≡ true → all-bodies g (take n xs) ≡ true
+pub bodies-take : (g : Geometry) (n : ℕ) (xs : List ℕ) → all-bodies g xs ≡ true → all-bodies g (take n xs) ≡ true
 bodies-take g zero xs e = refl
 bodies-take g (suc n) [] e = refl
 bodies-take g (suc n) (x ∷ xs) e = let p = and-parts (body-number g x) (all-bodies g xs) e in and-from _ _ (p .0) (bodies-take g n xs (p .1))

@@ -23,6 +23,7 @@ use Rattle.rule.specs.Meaning.{Fits, Rooted}
 use Rattle.rule.proofs.Steps.{some-is-true}
 use Rattle.rule.proofs.Means.{slot-in-some}
 use Rattle.rule.proofs.Formed.{Slot-formed, slot-formed, body-at}
+use Rattle.history.proofs.Puts.{bodies-push, bodies-take}
 use Rattle.history.proofs.Written.{slot-lies, body-lies, cell-length, blank-cells, slot-whole, file-whole, folder-whole, blank-whole}
 use Rattle.history.proofs.Parsed.{folder-parsed}
 use Rattle.history.proofs.Stands.{told-own, told-parent, highest-set, highest-new, Limits}
@@ -77,17 +78,6 @@ fine-put g high top shown b y up f l r = record {
 
     there : (x : ℕ) → (x ≡ b → ⊥) → seen g (put shown b (encode y)) x ≡ seen g shown x
     there x q = same x ∙ cond-false (eqb x b) y (seen g shown x) (ne-eqb x b q)
-
--- ---- numbers of slots
-
-bodies-push : (g : Geometry) (xs : List ℕ) (b : ℕ) → all-bodies g xs ≡ true → g .slots < b → b < g .blocks → all-bodies g (xs ++ (b ∷ [])) ≡ true
-bodies-push g [] b e up low = and-from _ _ (and-from _ _ (lt-ltb (g .slots) b up) (lt-ltb b (g .blocks) low)) refl
-bodies-push g (x ∷ xs) b e up low = let p = and-parts (body-number g x) (all-bodies g xs) e in and-from _ _ (p .0) (bodies-push g xs b (p .1) up low)
-
-bodies-take : (g : Geometry) (n : ℕ) (xs : List ℕ) → all-bodies g xs ≡ true → all-bodies g (take n xs) ≡ true
-bodies-take g zero xs e = refl
-bodies-take g (suc n) [] e = refl
-bodies-take g (suc n) (x ∷ xs) e = let p = and-parts (body-number g x) (all-bodies g xs) e in and-from _ _ (p .0) (bodies-take g n xs (p .1))
 
 pub limits-of : (g : Geometry) → in-limits (g .blocks) (g .slots) ≡ true → Limits g
 limits-of g e =
