@@ -163,13 +163,16 @@ Once [] = Unit {0}
 Once (w ∷ ws) = Apart (w .block .0) ws × Once ws
 
 abbrev pub Create-once : Type 0
-Create-once = (d : Kind) (f : Handle) (n : Name) (c : Card) (shown : Shown) (p : Plan Handle) → create d f n c shown ≡ Ok p → Once (p .puts)
+Create-once = (g : Geometry) (shown : Shown) (c : Card) (d : Kind) (f : Handle) (n : Name) (p : Plan Handle) → Creates g (seen g shown) c d f n p → Once (p .puts)
 
 abbrev pub Write-once : Type 0
-Write-once = (h : Handle) (k : ℕ) (x : List ℕ) (c : Card) (shown : Shown) (p : Plan (Unit {0})) → write h k x c shown ≡ Ok p → Once (p .puts)
+Write-once = (g : Geometry) (shown : Shown) (c : Card) (h : Handle) (k : ℕ) (x : List ℕ) (p : Plan (Unit {0})) → Writes g (seen g shown) c h k x p → Once (p .puts)
+
+abbrev pub Shorten-once : Type 0
+Shorten-once = (g : Geometry) (shown : Shown) (c : Card) (h : Handle) (n : ℕ) (p : Plan (Unit {0})) → Shortens g (seen g shown) c h n p → Once (p .puts)
 
 abbrev pub Remove-once : Type 0
-Remove-once = (f : Handle) (n : Name) (c : Card) (shown : Shown) (p : Plan (Unit {0})) → remove f n c shown ≡ Ok p → Once (p .puts)
+Remove-once = (g : Geometry) (shown : Shown) (c : Card) (f : Handle) (n : Name) (child : Handle) (p : Plan (Unit {0})) → Removes g (seen g shown) c f n child p → Once (p .puts)
 
 abbrev pub Format-once : Type 0
 Format-once = (n N S : ℕ) (ws : List Put) → format n N S ≡ Ok ws → Once ws

@@ -3,7 +3,7 @@
 ghost use Rattle.rule.specs.Meaning.{Found-is-found, Good-is-good, Reached-is-reached, Held-is-held, Free-slot-is-next, Free-body-is-next, No-free-slot, No-free-body};
 ghost use Rattle.rule.specs.Cases.{Cases-hold};
 ghost use Rattle.rule.specs.Broken.{Fresh-identity-needed, Untaken-name-needed, Free-body-needed, Empty-folder-needed};
-ghost use Rattle.rule.specs.Calls.{Create-means, Write-means, Shorten-means, Remove-means};
+ghost use Rattle.rule.specs.Calls.{Create-means, Write-means, Shorten-means, Remove-means, Format-means, Create-once, Write-once, Shorten-once, Remove-once, Format-once};
 
 // What computes is the rule as the relations have it.
 pub fn meaning_stands() -> u8
@@ -31,6 +31,18 @@ pub fn plans_stand() -> u8
     ensures writes { λ _. ⌜ Write-means ⌝ }
     ensures shortens { λ _. ⌜ Shorten-means ⌝ }
     ensures removes { λ _. ⌜ Remove-means ⌝ }
+    ensures formats { λ _. ⌜ Format-means ⌝ }
+{
+    0
+}
+
+// No call writes a block twice.
+pub fn blocks_go_once() -> u8
+    ensures create { λ _. ⌜ Create-once ⌝ }
+    ensures write { λ _. ⌜ Write-once ⌝ }
+    ensures shorten { λ _. ⌜ Shorten-once ⌝ }
+    ensures remove { λ _. ⌜ Remove-once ⌝ }
+    ensures format { λ _. ⌜ Format-once ⌝ }
 {
     0
 }
