@@ -1,0 +1,4 @@
+// Reading a card through any device: slots, leaves, entries and paths.
+pub mod child;
+pub mod leaf;
+pub mod slot;
