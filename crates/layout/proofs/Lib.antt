@@ -1,3 +1,4 @@
 pub mod Numbers
 pub mod Cells
 pub mod Parsing
+pub mod Back
