@@ -22,7 +22,7 @@ use Rattle.rule.specs.Reading.{EntryLine, entry-line}
 use Rattle.rule.proofs.Steps.{clash, clash-none, names-true}
 use Rattle.listing.specs.Lines as lines
 use Rattle.listing.specs.declared.line.EntryLine.{EntryLine as EntryRow}
-use Rattle.walk.specs.Copies.{child-slot, front, Holds}
+use Rattle.walk.specs.Copies.{child-slot, Holds}
 use Rattle.walk.specs.declared.leaf.LeafCopy.{LeafCopy}
 use Rattle.tours.specs.Lists.{entry-row, entry-lines, entry-rows, cell-rows, leaf-places}
 
@@ -41,7 +41,7 @@ from-suc i (suc n) = ap (λ (js : List ℕ). i ∷ js) (from-suc (suc i) n ∙ a
 pub from-more : (n : ℕ) → from 0 (n + 1) ≡ from 0 n ++ n ∷ []
 from-more n = ap (from 0) (add-one n) ∙ from-suc 0 n ∙ ap (λ (j : ℕ). from 0 n ++ j ∷ []) (omega arith)
 
-no-kind : {A : Type 0} → File ≡ Folder → A
+pub no-kind : {A : Type 0} → File ≡ Folder → A
 no-kind e = let z : _≡_ {A = ℕ} 0 1 = cc in absurd (omega arith)
 
 module _ (g : Geometry) (v : View) (f : Handle) where
@@ -135,15 +135,19 @@ module _ (g : Geometry) (v : View) (f : Handle) where
     body-of k e = names-true (r .kind) (back f k) (v (number r k)) (and-parts (ltb k (count r)) (names (r .kind) (back f k) (v (number r k))) e .1)
 
     -- the cells of a good leaf, as copied
-    pub leaf-good : (k : ℕ) (l : LeafCopy) → r .kind ≡ Folder → good v f r k ≡ true → Holds l (v (number r k)) →
-        (l .used ≡ 480) × (cell-rows g v f (cells (front l)) ≡ entry-rows g v f (leaf-places v f r k))
-    leaf-good k l d e h = go (body-of k e)
+    pub leaf-cells : (k : ℕ) (l : LeafCopy) → r .kind ≡ Folder → good v f r k ≡ true → Holds l (v (number r k)) → (l .used ≡ 480) × (cells (take 480 (l .bytes)) ≡ cells-in (v (number r k)))
+    leaf-cells k l d e h = go (body-of k e)
       where
-        go : Body (r .kind) (back f k) (v (number r k)) → (l .used ≡ 480) × (cell-rows g v f (cells (front l)) ≡ entry-rows g v f (leaf-places v f r k))
+        go : Body (r .kind) (back f k) (v (number r k)) → (l .used ≡ 480) × (cells (take 480 (l .bytes)) ≡ cells-in (v (number r k)))
         go (inl (x, file, is)) = no-kind (sym file ∙ d)
         go (inr (es, folder, is)) =
             let w = subst (Holds l) is h in
-            (w .0, sym (ap (entry-rows g v f) (cond-true (good v f r k) _ _ e) ∙ place-rows k 0 (cells-in (v (number r k))) ∙ ap (λ (c : Content). cell-rows g v f (cells-in c)) is ∙ ap (cell-rows g v f) (sym (w .1))))
+            (w .0, ap (λ (u : ℕ). cells (take u (l .bytes))) (sym (w .0)) ∙ w .1 ∙ ap cells-in (sym is))
+
+    pub leaf-good : (k : ℕ) (l : LeafCopy) → r .kind ≡ Folder → good v f r k ≡ true → Holds l (v (number r k)) → cell-rows g v f (cells (take 480 (l .bytes))) ≡ entry-rows g v f (leaf-places v f r k)
+    leaf-good k l d e h =
+        ap (cell-rows g v f) (leaf-cells k l d e h .1)
+        ∙ sym (ap (entry-rows g v f) (cond-true (good v f r k) _ _ e) ∙ place-rows k 0 (cells-in (v (number r k))))
 
     -- a file has no entries
     pub file-none : r .kind ≡ File → (ks : List ℕ) → places-over v f r ks ≡ []
