@@ -10,7 +10,7 @@ use Rattle.std.specs.declared.option.Option.{Option}
 use Rattle.std.specs.declared.option.Option.the-variants.{Some, None}
 use Rattle.std.specs.declared.result.Result.{Result}
 use Rattle.std.proofs.shelf.Lists.{length-set, getD-set-same, getD-set-other}
-use Rattle.std.proofs.shelf.Tests.{cases-eq, and-from, eq-eqb}
+use Rattle.std.proofs.shelf.Tests.{cases-eq, and-from, eq-eqb, eqb-true}
 use Rattle.base.specs.declared.owner.Kind.the-variants.{File, Folder}
 use Rattle.base.specs.declared.owner.Handle.{Handle}
 use Rattle.device.specs.Model.{Model}
@@ -18,11 +18,12 @@ use Rattle.device.specs.declared.fault.Fault.{Fault}
 use Rattle.layout.specs.Format.{Geometry, Name, Cell, Slot, Entry, entry, entry-of, handle}
 use Rattle.layout.specs.Sizes.{sizes}
 use Rattle.layout.specs.declared.geometry.Geometry.{Geometry as CardGeometry}
-use Rattle.rule.specs.Agree.{Shown, View, seen, slot-at, agrees, good, number, count, cells-in, root, reached}
-use Rattle.rule.specs.Meaning.{Fits, Sound, Reached, the-root, under, Rooted}
+use Rattle.rule.specs.Agree.{Shown, View, seen, slot-at, agrees, good, number, count, cells-in, parent-of, climbs, reached}
+use Rattle.rule.specs.Meaning.{Fits, Sound}
 use Rattle.rule.proofs.Steps.{clash, clash-none, handle-true}
 
-use Rattle.rule.proofs.Means.{fits-at, fits-from, agrees-true, leaf-is, sound-listed, reached-is-reached, reached-from, reached-fits}
+use Rattle.rule.proofs.Walks.{climbs-root, climbs-up, climbs-parts, climbs-within}
+use Rattle.rule.proofs.Means.{fits-at, fits-from, agrees-true, leaf-is, sound-listed, parent-parts, parent-from, up-below}
 use Rattle.walk.specs.Still.{Still, Says, shows}
 use Rattle.walk.proofs.Stills.{says-then}
 use Rattle.tours.specs.Marks.{Marked, MarksReached, Chain, top, below, ticks, Entered, Sane, Grew, Onward, Worked, ForChild, CellDone, CellChained, CellsDone, CellsChained, LeafDone, LeavesDone, Done, Open}
@@ -220,28 +221,39 @@ done-more z m k ms ms′ ws ws′ n n′ h s low grew done here i l f c kk p x f
     inl e ↦ moved-back (λ (sh : Shown). Done z (seen z sh) (getD ws h 0) ms′) m k s here f c kk p x (fs ∙ ap (λ (j : ℕ). getD ws′ j 0) e ∙ grew .front h low) snd
   | inr ne ↦ grew .more (c .slot .0) (done i (omega arith) f c kk p x (fs ∙ grew .front i (omega arith)) snd) ]
 
--- a chain is what it is to be reached, on a card with a good root
-module _ (g : Geometry) (v : View) (rooted : Rooted g v) where
-  chain-reached : (s : ℕ) → Chain g v s → reached g v s ≡ true
-  chain-reached s top = reached-from g v root the-root
-  chain-reached s (below {f} {c} way snd) = reached-from g v c (under (reached-fits g v f (snd .slot) rooted (snd .fits) (chain-reached (f .slot .0) way)) snd)
+-- a chain is what it is to be reached
+module _ (g : Geometry) (v : View) where
+  chain-climbs : (s : ℕ) → Chain g v s → (m : ℕ) × (climbs (parent-of g v) m s ≡ true)
+  chain-climbs s top = (0, refl)
+  chain-climbs s (below {f} {c} {k} {p} {n} way snd) =
+      let w = chain-climbs (f .slot .0) way in
+      (suc (w .0), climbs-up (parent-of g v) (w .0) (c .slot .0) (f .slot .0) (parent-from g v f c k p n snd) (w .1))
 
-  reached-chain : (h : Handle) → Reached g v h → Chain g v (h .slot .0)
-  reached-chain h the-root = top
-  reached-chain h (under {f} {c} r snd) = below {f = f} {c = c} (reached-chain f r) snd
+  chain-reached : (s : ℕ) → Chain g v s → reached g v s ≡ true
+  chain-reached s top = climbs-root (parent-of g v) (g .slots) 0 refl
+  chain-reached s (below {f} {c} {k} {p} {n} way snd) =
+      let w = chain-climbs (f .slot .0) way in
+      climbs-within (parent-of g v) (g .slots) (up-below g v) (suc (w .0)) (c .slot .0) (snd .child-fits .inside)
+      (climbs-up (parent-of g v) (w .0) (c .slot .0) (f .slot .0) (parent-from g v f c k p n snd) (w .1))
+
+  climbs-chain : (m s : ℕ) → climbs (parent-of g v) m s ≡ true → Chain g v s
+  climbs-chain zero s h = subst (Chain g v) (sym (eqb-true s 0 h)) top
+  climbs-chain (suc m) s h = elim (climbs-parts (parent-of g v) m s h) [
+      inl e ↦ subst (Chain g v) (sym e) top
+    | inr w ↦ (let q = parent-parts g v s (w .0) (w .1) in below {f = q .slot .parent} {c = handle s (q .slot .identity)} (subst (Chain g v) (sym (q .is)) (climbs-chain m (w .0) (w .2))) (q .sound)) ]
 
 pub all-marked : (g : Geometry) (v : View) (ms : List Bool) (ws : List ℕ) (n h : ℕ) → Sane g v ms ws n → n ≤ h → Marked ms 0 → ((i : ℕ) → i < h → Done g v (getD ws i 0) ms) → MarksReached g v ms
-all-marked g v ms ws n h sane over zero-marked done rooted s = go (getD ms s false) (reached g v s) refl refl
+all-marked g v ms ws n h sane over zero-marked done s = go (getD ms s false) (reached g v s) refl refl
   where
     there : Marked ms s → reached g v s ≡ true
-    there k = (let q = sane .listed s k in chain-reached g v rooted s (subst (Chain g v) (q .2) (sane .chained (q .0) (q .1))))
+    there k = (let q = sane .listed s k in chain-reached g v s (subst (Chain g v) (q .2) (sane .chained (q .0) (q .1))))
 
     complete : (t : ℕ) → Chain g v t → Marked ms t
     complete t top = zero-marked
     complete t (below {f} {c} {k} {p} {n = x} way snd) = (let q = sane .listed (f .slot .0) (complete (f .slot .0) way) in done (q .0) (let a = q .1 in omega arith) f c k p x (sym (q .2)) snd)
 
     here : reached g v s ≡ true → Marked ms s
-    here r = (let w = reached-is-reached g v rooted s .0 r in complete s (reached-chain g v rooted (handle s (w .0)) (w .1)))
+    here r = complete s (climbs-chain g v (g .slots) s r)
 
     go : (a b : Bool) → getD ms s false ≡ a → reached g v s ≡ b → getD ms s false ≡ reached g v s
     go true b ea eb = ea ∙ sym (there ea)

@@ -14,16 +14,16 @@ use Rattle.layout.specs.Format.{Geometry, Name, Cell, Slot, entry, entry-of}
 use Rattle.layout.specs.Sizes.{sizes}
 use Rattle.layout.specs.declared.geometry.Geometry.{Geometry as CardGeometry}
 use Rattle.rule.specs.Agree.{View, agrees, good, number, cells-in, reached}
-use Rattle.rule.specs.Meaning.{Fits, Sound, Rooted}
+use Rattle.rule.specs.Meaning.{Fits, Sound}
 use Rattle.walk.specs.Still.{Says, shows}
 
 -- the mark of slot s is set
 abbrev pub Marked : List Bool → ℕ → Type 0
 Marked ms s = getD ms s false ≡ true
 
--- on a card whose root is good, the marks say which slots are reached; a slot that the card has not is not marked
+-- the marks say which slots are reached; a slot that the card has not is not marked
 abbrev pub MarksReached : Geometry → View → List Bool → Type 0
-MarksReached g v ms = Rooted g v → (s : ℕ) → getD ms s false ≡ reached g v s
+MarksReached g v ms = (s : ℕ) → getD ms s false ≡ reached g v s
 
 -- from slot 0 down to a slot by sound entries
 pub data Chain (g : Geometry) (v : View) : ℕ → Type 0 where
