@@ -58,8 +58,9 @@ end-within (x ∷ xs) = go (eqb x 47) (end-within xs)
 
 leb-as : (a b c d : ℕ) → (a ≤ b → c ≤ d) → (c ≤ d → a ≤ b) → leb a b ≡ leb c d
 leb-as a b c d f g = elim (cases-lt b a) [
-    inl l ↦ lt-leb a b l ∙ sym (elim (cases-lt d c) [ inl k ↦ lt-leb c d k | inr k ↦ absurd (omega (arith, g k)) ])
-  | inr l ↦ le-leb a b l ∙ sym (le-leb c d (f l)) ]
+  | inl l ↦ lt-leb a b l ∙ sym (elim (cases-lt d c) [ inl k ↦ lt-leb c d k | inr k ↦ absurd (omega (arith, g k)) ])
+  | inr l ↦ le-leb a b l ∙ sym (le-leb c d (f l))
+]
 
 -- the first name, and the rest after its '/'
 abbrev rest-of : List ℕ → List Name

@@ -10,13 +10,13 @@ ghost use Rattle.rule.specs.Agree.{places-of, found, same-bytes};
 ghost use Rattle.walk.specs.Still.{Says, shows};
 ghost use Rattle.walk.specs.Copies.{copied};
 ghost use Rattle.walk.specs.Finding.{CellIs, FirstIs, first-hit, leaf-places};
-use base::number::LeafNo;
-use base::owner::Handle;
-use base::owner::Kind;
 use crate::child::read_child;
 use crate::leaf::LeafCopy;
 use crate::leaf::read_leaf;
 use crate::slot::SlotCopy;
+use base::number::LeafNo;
+use base::owner::Handle;
+use base::owner::Kind;
 use device::Device;
 use device::fault::Fault;
 use entries::entry::Cell;
@@ -47,7 +47,13 @@ fn is_same(a: &[u8], b: &[u8]) -> bool
 }
 
 // The child of the entry in a cell, if it has the name and is sound. A slot is read only where the name is the same.
-fn try_cell<D: Device>(device: &mut D, g: &Geometry, folder: &Handle, name: &[u8], bytes: &[u8]) -> Result<Option<Child>, Fault>
+fn try_cell<D: Device>(
+    device: &mut D,
+    g: &Geometry,
+    folder: &Handle,
+    name: &[u8],
+    bytes: &[u8],
+) -> Result<Option<Child>, Fault>
     requires { ⌜ length (now bytes) ≡ 32 ⌝ }
     ensures { λ r. ⌜ Says (now (g .entry)) r (CellIs (sizes (now (g .entry))) (shows (now (g .entry)) (model (now (device .entry)))) (now (folder .entry)) (now (name .entry)) (now (bytes .entry))) (model (now (device .entry))) (model (now (device .exit))) ⌝ }
 {
@@ -71,7 +77,14 @@ fn try_cell<D: Device>(device: &mut D, g: &Geometry, folder: &Handle, name: &[u8
 }
 
 // The same at a place of a leaf, which has 480 bytes.
-fn try_place<D: Device>(device: &mut D, g: &Geometry, folder: &Handle, name: &[u8], payload: &[u8], place: usize) -> Result<Option<Child>, Fault>
+fn try_place<D: Device>(
+    device: &mut D,
+    g: &Geometry,
+    folder: &Handle,
+    name: &[u8],
+    payload: &[u8],
+    place: usize,
+) -> Result<Option<Child>, Fault>
     requires { ⌜ length (now payload) ≡ 480 ⌝ ∗ ⌜ place < 15 ⌝ }
     ensures { λ r. ⌜ Says (now (g .entry)) r (CellIs (sizes (now (g .entry))) (shows (now (g .entry)) (model (now (device .entry)))) (now (folder .entry)) (now (name .entry)) (getD (cells (now (payload .entry))) place [])) (model (now (device .entry))) (model (now (device .exit))) ⌝ }
 {
@@ -82,7 +95,14 @@ fn try_place<D: Device>(device: &mut D, g: &Geometry, folder: &Handle, name: &[u
 }
 
 // The first sound entry with the name among the 15 of a leaf.
-fn find_in_leaf<D: Device>(device: &mut D, g: &Geometry, folder: &Handle, name: &[u8], leaf: LeafNo, payload: &[u8]) -> Result<Option<Found>, Fault>
+fn find_in_leaf<D: Device>(
+    device: &mut D,
+    g: &Geometry,
+    folder: &Handle,
+    name: &[u8],
+    leaf: LeafNo,
+    payload: &[u8],
+) -> Result<Option<Found>, Fault>
     requires { ⌜ length (now payload) ≡ 480 ⌝ }
     ensures { λ r. ⌜ Says (now (g .entry)) r (FirstIs (sizes (now (g .entry))) (shows (now (g .entry)) (model (now (device .entry)))) (now (folder .entry)) (now (name .entry)) (first-hit (sizes (now (g .entry))) (shows (now (g .entry)) (model (now (device .entry)))) (now (folder .entry)) (now (name .entry)) (places-of (leaf .0) 0 (cells (now (payload .entry)))))) (model (now (device .entry))) (model (now (device .exit))) ⌝ }
 {
@@ -104,7 +124,14 @@ fn find_in_leaf<D: Device>(device: &mut D, g: &Geometry, folder: &Handle, name: 
 }
 
 // The same in a leaf of the folder, if the leaf is good.
-fn find_leaf<D: Device>(device: &mut D, g: &Geometry, folder: &Handle, slot: &SlotCopy, name: &[u8], leaf: LeafNo) -> Result<Option<Found>, Fault>
+fn find_leaf<D: Device>(
+    device: &mut D,
+    g: &Geometry,
+    folder: &Handle,
+    slot: &SlotCopy,
+    name: &[u8],
+    leaf: LeafNo,
+) -> Result<Option<Found>, Fault>
     requires { ⌜ now slot .kind ≡ Folder ⌝ }
     ensures { λ r. ⌜ Says (now (g .entry)) r (FirstIs (sizes (now (g .entry))) (shows (now (g .entry)) (model (now (device .entry)))) (now (folder .entry)) (now (name .entry)) (first-hit (sizes (now (g .entry))) (shows (now (g .entry)) (model (now (device .entry)))) (now (folder .entry)) (now (name .entry)) (leaf-places (shows (now (g .entry)) (model (now (device .entry)))) (now (folder .entry)) (copied (now (slot .entry))) (leaf .0)))) (model (now (device .entry))) (model (now (device .exit))) ⌝ }
 {
@@ -116,7 +143,13 @@ fn find_leaf<D: Device>(device: &mut D, g: &Geometry, folder: &Handle, slot: &Sl
 }
 
 // The first sound entry with the name, by leaf, then place; a file has none. Each leaf is read once.
-pub fn find_entry<D: Device>(device: &mut D, g: &Geometry, folder: &Handle, slot: &SlotCopy, name: &[u8]) -> Result<Option<Found>, Fault>
+pub fn find_entry<D: Device>(
+    device: &mut D,
+    g: &Geometry,
+    folder: &Handle,
+    slot: &SlotCopy,
+    name: &[u8],
+) -> Result<Option<Found>, Fault>
     ensures { λ r. ⌜ Says (now (g .entry)) r (FirstIs (sizes (now (g .entry))) (shows (now (g .entry)) (model (now (device .entry)))) (now (folder .entry)) (now (name .entry)) (found (sizes (now (g .entry))) (shows (now (g .entry)) (model (now (device .entry)))) (now (folder .entry)) (copied (now (slot .entry))) (now (name .entry)))) (model (now (device .entry))) (model (now (device .exit))) ⌝ }
 {
     match slot.kind {

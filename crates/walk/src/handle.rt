@@ -8,19 +8,23 @@ ghost use Rattle.rule.specs.Reading.{fits, kind-is, reading, step};
 ghost use Rattle.walk.specs.Still.{Gives, shows};
 ghost use Rattle.walk.specs.Copies.{copied};
 ghost use Rattle.walk.specs.Stepping.{stepped, entered, Enters};
-use base::owner::Handle;
-use base::owner::Kind;
-use base::refusal::Refusal;
 use crate::entry::Found;
 use crate::entry::find_entry;
 use crate::slot::SlotCopy;
 use crate::slot::read_slot;
+use base::owner::Handle;
+use base::owner::Kind;
+use base::refusal::Refusal;
 use device::Device;
 use device::fault::RefusalFromFault;
 use layout::geometry::Geometry;
 
 // The slot of a handle, if the slot is well formed with that identity.
-pub fn read_handle<D: Device>(device: &mut D, g: &Geometry, handle: &Handle) -> Result<SlotCopy, Refusal>
+pub fn read_handle<D: Device>(
+    device: &mut D,
+    g: &Geometry,
+    handle: &Handle,
+) -> Result<SlotCopy, Refusal>
     ensures { λ r. ⌜ Gives (now (g .entry)) r (fits (sizes (now (g .entry))) (shows (now (g .entry)) (model (now (device .entry)))) (now (handle .entry))) (λ s. fits (sizes (now (g .entry))) (shows (now (g .entry)) (model (now (device .entry)))) (now (handle .entry)) ≡ Ok (copied s)) (model (now (device .entry))) (model (now (device .exit))) ⌝ }
 {
     let slot = read_slot(device, g, handle.slot)?;
@@ -59,7 +63,12 @@ pub fn want_kind(kind: Kind, handle: &Handle, slot: &SlotCopy) -> Result<(), Ref
 }
 
 // The slot of a handle, if it fits and is of this kind. One read.
-pub fn read_kind<D: Device>(device: &mut D, g: &Geometry, kind: Kind, handle: &Handle) -> Result<SlotCopy, Refusal>
+pub fn read_kind<D: Device>(
+    device: &mut D,
+    g: &Geometry,
+    kind: Kind,
+    handle: &Handle,
+) -> Result<SlotCopy, Refusal>
     ensures { λ r. ⌜ Gives (now (g .entry)) r (reading (sizes (now (g .entry))) (shows (now (g .entry)) (model (now (device .entry)))) kind (now (handle .entry))) (λ s. reading (sizes (now (g .entry))) (shows (now (g .entry)) (model (now (device .entry)))) kind (now (handle .entry)) ≡ Ok (copied s)) (model (now (device .entry))) (model (now (device .exit))) ⌝ }
 {
     let slot = read_handle(device, g, handle)?;
@@ -68,7 +77,13 @@ pub fn read_kind<D: Device>(device: &mut D, g: &Geometry, kind: Kind, handle: &H
 }
 
 // The step from a folder, whose slot is given, to the child that has the name.
-pub fn enter<D: Device>(device: &mut D, g: &Geometry, folder: &Handle, slot: &SlotCopy, name: &[u8]) -> Result<Found, Refusal>
+pub fn enter<D: Device>(
+    device: &mut D,
+    g: &Geometry,
+    folder: &Handle,
+    slot: &SlotCopy,
+    name: &[u8],
+) -> Result<Found, Refusal>
     ensures { λ r. ⌜ Gives (now (g .entry)) r (entered (sizes (now (g .entry))) (shows (now (g .entry)) (model (now (device .entry)))) (now (folder .entry)) (now (name .entry)) (copied (now (slot .entry)))) (Enters (sizes (now (g .entry))) (shows (now (g .entry)) (model (now (device .entry)))) (entered (sizes (now (g .entry))) (shows (now (g .entry)) (model (now (device .entry)))) (now (folder .entry)) (now (name .entry)) (copied (now (slot .entry))))) (model (now (device .entry))) (model (now (device .exit))) ⌝ }
 {
     want_kind(Kind::Folder, folder, slot)?;
@@ -80,7 +95,12 @@ pub fn enter<D: Device>(device: &mut D, g: &Geometry, folder: &Handle, slot: &Sl
 }
 
 // The child of a folder that has the name: the folder's slot, its leaves and the child's slot are each read once.
-pub fn find_child<D: Device>(device: &mut D, g: &Geometry, folder: &Handle, name: &[u8]) -> Result<Found, Refusal>
+pub fn find_child<D: Device>(
+    device: &mut D,
+    g: &Geometry,
+    folder: &Handle,
+    name: &[u8],
+) -> Result<Found, Refusal>
     ensures { λ r. ⌜ Gives (now (g .entry)) r (step (sizes (now (g .entry))) (shows (now (g .entry)) (model (now (device .entry)))) (now (folder .entry)) (now (name .entry))) (Enters (sizes (now (g .entry))) (shows (now (g .entry)) (model (now (device .entry)))) (step (sizes (now (g .entry))) (shows (now (g .entry)) (model (now (device .entry)))) (now (folder .entry)) (now (name .entry)))) (model (now (device .entry))) (model (now (device .exit))) ⌝ }
 {
     let slot = read_handle(device, g, folder)?;

@@ -11,15 +11,15 @@ ghost use Rattle.walk.specs.Still.{PathGives, shows};
 ghost use Rattle.walk.specs.Copies.{copied};
 ghost use Rattle.walk.specs.Stepping.{entered, Enters};
 ghost use Rattle.walk.specs.Paths.{name-end};
+use crate::entry::Found;
+use crate::handle::enter;
+use crate::handle::read_handle;
+use crate::slot::SlotCopy;
 use base::number::Identity;
 use base::number::SlotNo;
 use base::owner::Handle;
 use base::refusal::PathRefusal;
 use base::refusal::Refusal;
-use crate::entry::Found;
-use crate::handle::enter;
-use crate::handle::read_handle;
-use crate::slot::SlotCopy;
 use device::Device;
 use entries::entry::name_fits;
 use layout::geometry::Geometry;
@@ -92,7 +92,14 @@ pub fn check_path(path: &[u8]) -> Result<(), PathRefusal>
     Ok(())
 }
 
-fn enter_at<D: Device>(device: &mut D, g: &Geometry, folder: &Handle, slot: &SlotCopy, name: &[u8], component: usize) -> Result<Found, PathRefusal>
+fn enter_at<D: Device>(
+    device: &mut D,
+    g: &Geometry,
+    folder: &Handle,
+    slot: &SlotCopy,
+    name: &[u8],
+    component: usize,
+) -> Result<Found, PathRefusal>
     ensures { λ r. ⌜ PathGives (now (g .entry)) r (at-component component (entered (sizes (now (g .entry))) (shows (now (g .entry)) (model (now (device .entry)))) (now (folder .entry)) (now (name .entry)) (copied (now (slot .entry))))) (Enters (sizes (now (g .entry))) (shows (now (g .entry)) (model (now (device .entry)))) (entered (sizes (now (g .entry))) (shows (now (g .entry)) (model (now (device .entry)))) (now (folder .entry)) (now (name .entry)) (copied (now (slot .entry))))) (model (now (device .entry))) (model (now (device .exit))) ⌝ }
 {
     at_component(component, enter(device, g, folder, slot, name))
@@ -105,7 +112,12 @@ fn read_root<D: Device>(device: &mut D, g: &Geometry) -> Result<SlotCopy, PathRe
 }
 
 // Component by component from the root, whose slot is given.
-fn walk_from<D: Device>(device: &mut D, g: &Geometry, top: SlotCopy, path: &[u8]) -> Result<Handle, PathRefusal>
+fn walk_from<D: Device>(
+    device: &mut D,
+    g: &Geometry,
+    top: SlotCopy,
+    path: &[u8],
+) -> Result<Handle, PathRefusal>
     requires { ⌜ fits (sizes (now g)) (shows (now g) (model (now device))) root ≡ Ok (copied top) ⌝ ∗ ⌜ 0 < length (now path) ⌝ }
     ensures { λ r. ⌜ PathGives (now (g .entry)) r (walk (sizes (now (g .entry))) (shows (now (g .entry)) (model (now (device .entry)))) 0 root (components (now (path .entry)))) (λ h. walk (sizes (now (g .entry))) (shows (now (g .entry)) (model (now (device .entry)))) 0 root (components (now (path .entry))) ≡ Ok h) (model (now (device .entry))) (model (now (device .exit))) ⌝ }
 {
@@ -126,7 +138,11 @@ fn walk_from<D: Device>(device: &mut D, g: &Geometry, top: SlotCopy, path: &[u8]
 
 // From the root down. The root's slot is read once; the slot of each next folder is the one that was read to see
 // whether its entry is sound. The empty path is the root, and needs no read.
-pub fn walk_path<D: Device>(device: &mut D, g: &Geometry, path: &[u8]) -> Result<Handle, PathRefusal>
+pub fn walk_path<D: Device>(
+    device: &mut D,
+    g: &Geometry,
+    path: &[u8],
+) -> Result<Handle, PathRefusal>
     ensures { λ r. ⌜ PathGives (now (g .entry)) r (walk (sizes (now (g .entry))) (shows (now (g .entry)) (model (now (device .entry)))) 0 root (components (now (path .entry)))) (λ h. walk (sizes (now (g .entry))) (shows (now (g .entry)) (model (now (device .entry)))) 0 root (components (now (path .entry))) ≡ Ok h) (model (now (device .entry))) (model (now (device .exit))) ⌝ }
 {
     if path.is_empty() {

@@ -11,4 +11,4 @@ abbrev pub Inv-loop-k : given.InvT-loop-k
 Inv-loop-k g l =
     Still (g .D·Device .model (l .entry .device)) (g .D·Device .model (l .device))
     × (first-hit (sizes (l .g)) (shows (l .g) (g .D·Device .model (l .entry .device))) (l .folder) (l .name) (places (shows (l .g) (g .D·Device .model (l .entry .device))) (l .folder) (copied (l .slot)))
-      ≡ first-hit (sizes (l .g)) (shows (l .g) (g .D·Device .model (l .entry .device))) (l .folder) (l .name) (places-over (shows (l .g) (g .D·Device .model (l .entry .device))) (l .folder) (copied (l .slot)) (from (l .k) (l .slot .count - l .k))))
+    ≡ first-hit (sizes (l .g)) (shows (l .g) (g .D·Device .model (l .entry .device))) (l .folder) (l .name) (places-over (shows (l .g) (g .D·Device .model (l .entry .device))) (l .folder) (copied (l .slot)) (from (l .k) (l .slot .count - l .k))))

@@ -11,4 +11,4 @@ abbrev pub Inv-loop-place : given.InvT-loop-place
 Inv-loop-place g l =
     Still (g .D·Device .model (l .entry .device)) (g .D·Device .model (l .device))
     × (first-hit (sizes (l .g)) (shows (l .g) (g .D·Device .model (l .entry .device))) (l .folder) (l .name) (places-of (l .leaf .0) 0 (cells (l .payload)))
-      ≡ first-hit (sizes (l .g)) (shows (l .g) (g .D·Device .model (l .entry .device))) (l .folder) (l .name) (places-of (l .leaf .0) (l .place) (drop (l .place) (cells (l .payload)))))
+    ≡ first-hit (sizes (l .g)) (shows (l .g) (g .D·Device .model (l .entry .device))) (l .folder) (l .name) (places-of (l .leaf .0) (l .place) (drop (l .place) (cells (l .payload)))))

@@ -28,11 +28,13 @@ pub loop-start-again : need.loop-start-again
 loop-start-again g c =
     let was = g .D·Device .model (c .args .device .now) .shown in
     let e = c .in-Continue-found .ensures tt in
-    let more = names-more (c .args .path .now) (c .loop-start .start) (c .find-end-end .result) (omega arith) (c .find-end-end .ensures .end) in
-    (still-then _ _ _ (c .loop-start .inv .0) (e .0),
-     walk-fits (sizes (c .args .g .now)) was _ _ _ (c .loop-start .inv .0 .kept .shown) (e .1),
-     walk-in (sizes (c .args .g .now)) was _ _ _ (c .loop-start .component) (c .loop-start .at) (copied (c .loop-start .slot)) _ _ (c .loop-start .inv .0 .kept .shown) (c .loop-start .inv .1) (c .loop-start .inv .2) more _ (e .1),
-     omega arith, omega arith)
+    let more = names-more (c .args .path .now) (c .loop-start .start) (c .find-end-end .result) (omega arith) (c .find-end-end .ensures .end) in (
+      still-then _ _ _ (c .loop-start .inv .0) (e .0),
+      walk-fits (sizes (c .args .g .now)) was _ _ _ (c .loop-start .inv .0 .kept .shown) (e .1),
+      walk-in (sizes (c .args .g .now)) was _ _ _ (c .loop-start .component) (c .loop-start .at) (copied (c .loop-start .slot)) _ _ (c .loop-start .inv .0 .kept .shown) (c .loop-start .inv .1) (c .loop-start .inv .2) more _ (e .1),
+      omega arith,
+      omega arith,
+    )
 
 pub returns : need.returns
 returns g c =
