@@ -1,3 +1,5 @@
 pub mod Numbers
 pub mod Cells
 pub mod Parsing
+pub mod Back
+pub mod Again

@@ -5,3 +5,4 @@ pub mod View
 pub mod Entries
 pub mod Identities
 pub mod Owners
+pub mod Laws

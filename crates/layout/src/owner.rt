@@ -4,10 +4,11 @@ ghost use Rattle.std.specs.Orderings.{Decides};
 ghost use Rattle.layout.specs.Owners.{body-line, slot-line};
 use crate::block::Body;
 use crate::block::Slot;
+use base::number::IdentityPartialEq;
+use base::number::SlotNoPartialEq;
 use base::owner::Back;
 use base::owner::BackPartialEq;
 use base::owner::Handle;
-use base::owner::HandlePartialEq;
 
 // What an owned thing says of its owner (a back pointer).
 pub trait BackLine {
@@ -23,7 +24,7 @@ pub impl BackLine for Back as BackBackLine {
 
 pub impl BackLine for Handle as HandleBackLine {
     fn same(&self, other: &Handle) -> bool {
-        *self == *other
+        self.slot == other.slot && self.identity == other.identity
     }
 }
 
