@@ -5,10 +5,10 @@ use Prim.Native.Nat.{ℕ, zero, suc, _+_, _*_, _-_, _/_, _%_, _≤_, _<_}
 use native.Mathlib.Omega.{arith}
 use native.Mathlib.Numerals.{add-one}
 use lib.ListN.{length, getD, set, take, drop, replicate}
-use Rattle.std.proofs.shelf.Lists.{append-nil, set-at, drop-more, take-more, map-push, take-all, length-append, length-take-le, length-replicate, drop-replicate, replicate-append-replicate}
+use Rattle.std.proofs.shelf.Lists.{append-nil, set-at, map-set, drop-more, take-more, map-push, take-all, length-append, length-take-le, length-replicate, drop-replicate, replicate-append-replicate}
 use Rattle.base.specs.declared.number.BlockNo.{BlockNo}
 use Rattle.layout.specs.Format.{two, numbers-bytes, padded}
-use Rattle.encode.specs.Heads.{plain, slot-head-bytes}
+use Rattle.encode.specs.Heads.{plain, slot-head-bytes, Copied}
 use Rattle.base.specs.declared.owner.Kind.{Kind}
 use Rattle.base.specs.declared.owner.Handle.{Handle}
 
@@ -71,3 +71,21 @@ slot-block o h z ns d i p few eo eh ez =
     let len : length (numbers-bytes (plain ns)) ≡ 2 * length ns = length-numbers-bytes (plain ns) ∙ ap (λ n. 2 * n) (length-plain ns) in
     eo ∙ ap (λ x. x ++ padded 496 z) (eh ∙ ap (λ n. slot-head-bytes d n i p) (sym (length-plain ns)))
     ∙ ap (λ x. slot-head-bytes d (length (plain ns)) i p ++ x) (ap (padded 496) ez ∙ pad-more (numbers-bytes (plain ns)) (2 * length ns) 128 496 len (omega arith) (omega arith))
+
+-- one more number taken out of a slot
+pub copied-more : (ns : List ℕ) (before o w : List BlockNo) (k : ℕ) (b : BlockNo) → k < length ns → k < length before → plain o ≡ take k ns ++ drop k (plain before) → b .0 ≡ getD ns k 0 → w ≡ set o k b → plain w ≡ take (k + 1) ns ++ drop (k + 1) (plain before)
+copied-more ns before o w k b hn hb e eb ew =
+    let room : k < length (plain before) = omega (arith, length-plain before) in
+    ap plain ew ∙ map-set (λ (x : BlockNo). x .0) o k b ∙ ap (λ x. set x k (b .0)) (e ∙ ap (λ x. take k ns ++ x) (drop-more (plain before) k 0 room))
+    ∙ set-at (take k ns) (getD (plain before) k 0) (drop (k + 1) (plain before)) (b .0) k (length-take-le k ns (omega arith))
+    ∙ sym (append-assoc (take k ns) (b .0 ∷ []) (drop (k + 1) (plain before)))
+    ∙ ap (λ x. (take k ns ++ (x ∷ [])) ++ drop (k + 1) (plain before)) eb
+    ∙ ap (λ x. x ++ drop (k + 1) (plain before)) (sym (take-more ns k 0 hn))
+
+pub copied-all : (ns : List ℕ) (before o : List BlockNo) (k n : ℕ) → n ≡ length ns → n ≤ 64 → k ≡ n → plain o ≡ take k ns ++ drop k (plain before) → Copied ns before o n
+copied-all ns before o k n en few ek e =
+    record {
+      number = en;
+      few = few;
+      copied = e ∙ ap (λ x. x ++ drop k (plain before)) (take-all k ns (omega arith)) ∙ ap (λ i. ns ++ drop i (plain before)) ek;
+    }

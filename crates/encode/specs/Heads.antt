@@ -1,8 +1,8 @@
 -- The first bytes of a block and of a cell, and the contents that encoders are given.
 use mathlib.Core.Path.{_≡_}
-use Prim.Native.Nat.{ℕ, _<_}
-use lib.ListN.{length}
-use mathlib.Core.List.{List, [], _∷_, map}
+use Prim.Native.Nat.{ℕ, _<_, _≤_}
+use lib.ListN.{length, drop}
+use mathlib.Core.List.{List, [], _∷_, _++_, map}
 use Rattle.base.specs.declared.number.BlockNo.{BlockNo}
 use Rattle.base.specs.declared.owner.Kind.{Kind}
 use Rattle.base.specs.declared.owner.Handle.{Handle}
@@ -33,3 +33,9 @@ slot-record d i p ns = record { kind = d; identity = i; parent = p; numbers = ns
 -- a folder's leaf has a cell at this place
 abbrev pub Placed : List ℕ → ℕ → Type 0
 Placed payload place = (length payload ≡ 480) × (place < 15)
+
+-- these numbers, n of them, are copied to the front of out; what lies behind them stays
+pub record Copied (ns : List ℕ) (before out : List BlockNo) (n : ℕ) : Type 0 where
+  pub number : n ≡ length ns
+  pub few : n ≤ 64
+  pub copied : plain out ≡ ns ++ drop n (plain before)

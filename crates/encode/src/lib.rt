@@ -2,3 +2,4 @@
 pub mod block;
 mod bytes;
 pub mod entry;
+pub mod slot;

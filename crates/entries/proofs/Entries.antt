@@ -1,5 +1,5 @@
 -- A test of every byte, one more at a time, and an entry by its parts.
-use mathlib.Core.Path.{_≡_, refl, sym, ap, _∙_}
+use mathlib.Core.Path.{_≡_, refl, sym, ap, subst, _∙_}
 use mathlib.Core.Bool.{Bool, true, false, cond, not, _&&_, _||_}
 use mathlib.Core.List.{List, [], _∷_}
 use mathlib.Core.Logic.{_⊎_, inl, inr, ⊎-elim}
@@ -8,13 +8,14 @@ use native.Mathlib.Omega.{arith}
 use native.Mathlib.Nat.{sub-zero}
 use lib.Dec.{eqb, leb, ltb}
 use lib.ListN.{length, getD, take, drop}
-use Rattle.std.proofs.shelf.Lists.{at-drop-more, take-rest}
-use Rattle.std.proofs.shelf.Tests.{eqb-true, eq-eqb, and-parts, and-right, cases-bool}
+use Rattle.std.proofs.shelf.Lists.{at-drop-more, take-rest, length-drop, length-take-le}
+use Rattle.std.proofs.shelf.Tests.{eqb-true, eq-eqb, and-parts, and-from, and-right, cases-bool, leb-true, ltb-true}
 use Rattle.std.proofs.shelf.Ways.{tells}
 use Rattle.base.specs.declared.owner.Handle.{Handle}
 use Rattle.layout.specs.Format.{Geometry, Cell, Entry, no-entry, le16, le32, plain-bytes, entry-fits, entry-of}
 use Rattle.layout.specs.Entries.{State, blank, well-formed, ill-formed, all-zero, child-at, name-at, used-state, entry-state, leads}
 use Rattle.entries.specs.View.{entry-head-fits}
+use Rattle.layout.specs.Laws.{Bytes, EntryRanged}
 
 -- F tests every byte by p
 module _ (p : ℕ → Bool) (F : List ℕ → Bool) (step : (x : ℕ) (xs : List ℕ) → F (x ∷ xs) ≡ (p x && F xs)) (xs : List ℕ) (i : ℕ) (r : Bool) (at : i < length xs) (inv : F (drop i xs) ≡ r) where
@@ -104,3 +105,34 @@ module _ (g : Geometry) (e : List ℕ) (len : length e ≡ 32) where
 
   pub state-led : (s : State) → s ≡ entry-state g e → leads s ≡ entry-of g e
   state-led s i = ap leads i ∙ state-leads g e len
+
+-- what is well formed keeps its ranges
+module _ (g : Geometry) (e : List ℕ) (fits : Bytes e) (len : length e ≡ 32) where
+  ranged-used : (t : Bool) → entry-fits g e ≡ t → EntryRanged g (cond t (well-formed (name-at e) (child-at e)) ill-formed)
+  ranged-used false t = tt
+  ranged-used true t =
+      let a = and-parts (leb 1 (getD e 0 0)) (leb (getD e 0 0) 24 && (leb 1 (le16 e 2) && (ltb (le16 e 2) (g .slots) && (leb 1 (le32 e 4) && plain-bytes (name-at e))))) t in
+      let b = and-parts (leb (getD e 0 0) 24) (leb 1 (le16 e 2) && (ltb (le16 e 2) (g .slots) && (leb 1 (le32 e 4) && plain-bytes (name-at e)))) (a .1) in
+      let c = and-parts (leb 1 (le16 e 2)) (ltb (le16 e 2) (g .slots) && (leb 1 (le32 e 4) && plain-bytes (name-at e))) (b .1) in
+      let d = and-parts (ltb (le16 e 2) (g .slots)) (leb 1 (le32 e 4) && plain-bytes (name-at e)) (c .1) in
+      let f = and-parts (leb 1 (le32 e 4)) (plain-bytes (name-at e)) (d .1) in
+      let short : getD e 0 0 ≤ 24 = leb-true (getD e 0 0) 24 (b .0) in
+      let room : getD e 0 0 ≤ length (drop 8 e) = simp length-drop (omega arith) in
+      let n : length (name-at e) ≡ getD e 0 0 = length-take-le (getD e 0 0) (drop 8 e) room in (
+        and-from (leb 1 (length (name-at e))) (leb (length (name-at e)) 24 && plain-bytes (name-at e)) (ap (leb 1) n ∙ a .0)
+            (and-from (leb (length (name-at e)) 24) (plain-bytes (name-at e)) (ap (λ m. leb m 24) n ∙ b .0) (f .1)),
+        record {
+          from-one = leb-true 1 (le16 e 2) (c .0);
+          slot = ltb-true (le16 e 2) (g .slots) (d .0);
+          own = (leb-true 1 (le32 e 4) (f .0), omega (arith, fits 4, fits 5, fits 6, fits 7));
+        },
+      )
+
+  ranged-zero : (t : Bool) → EntryRanged g (cond t blank (used-state g e))
+  ranged-zero true = tt
+  ranged-zero false = ranged-used (entry-fits g e) refl
+
+  pub ranged-state : (s : State) → s ≡ entry-state g e → EntryRanged g s
+  ranged-state s i =
+      let l = eq-eqb (length e) 32 len in
+      subst (EntryRanged g) (sym i) (rw l (ranged-zero (all-zero e)))

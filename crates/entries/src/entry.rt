@@ -7,6 +7,7 @@ ghost use Rattle.std.specs.Options.{Cases as BySome};
 ghost use Rattle.layout.specs.Format.{plain-bytes, good-name, entry-of};
 ghost use Rattle.layout.specs.Sizes.{sizes};
 ghost use Rattle.layout.specs.Head.{cells};
+ghost use Rattle.layout.specs.Laws.{EntryRanged};
 ghost use Rattle.layout.specs.Entries.{all-zero, used-state, entry-state, leads};
 ghost use Rattle.entries.specs.View.{entry-child, entry-head-fits, cell-view};
 use base::number::Identity;
@@ -101,6 +102,7 @@ fn used_cell<'a>(g: &Geometry, bytes: &'a [u8]) -> Cell<'a>
 // What the 32 bytes of a cell hold; anything but 32 bytes is ill formed.
 pub fn parse_cell<'a>(g: &Geometry, bytes: &'a [u8]) -> Cell<'a>
     ensures state { λ r. ⌜ cell-view r ≡ entry-state (sizes (now (g .entry))) (now (bytes .entry)) ⌝ }
+    ensures ranged { λ r. ⌜ EntryRanged (sizes (now (g .entry))) (cell-view r) ⌝ }
     ensures leads { λ r. ⌜ (length (now (bytes .entry)) ≡ 32 → leads (cell-view r) ≡ entry-of (sizes (now (g .entry))) (now (bytes .entry))) ⌝ }
 {
     if bytes.len() != 32 {

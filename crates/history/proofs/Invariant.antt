@@ -12,19 +12,22 @@ use Rattle.std.specs.declared.result.Result.the-variants.{Ok, Err}
 use Rattle.std.proofs.shelf.Tests.{cases-lt, and-from, le-leb}
 use Rattle.base.specs.declared.owner.Kind.the-variants.{Folder}
 use Rattle.base.specs.declared.owner.Handle.{Handle}
+use Rattle.base.specs.declared.refusal.Refusal.{Refusal}
 use Rattle.base.specs.declared.refusal.PathRefusal.{PathRefusal}
 use Rattle.device.specs.Model.{Model, Block, Stands, OnlyShown}
 use Rattle.device.specs.Effect.{PutAt, puts}
 use Rattle.layout.specs.Format.{Name, Cell, Geometry, back, Slot, Content, blank, cover, slotted, file-body, folder-body, ill-formed, cover-of, in-limits, parse, encode}
 use Rattle.layout.specs.Identities.{told}
-use Rattle.rule.specs.Agree.{View, seen, number, root}
+use Rattle.rule.specs.Agree.{Shown, View, seen, number, root}
 use Rattle.rule.specs.Card.{Card, Ready}
 use Rattle.rule.specs.Reading.{step, components}
+use Rattle.rule.specs.Reading as rule-of-reading
 use Rattle.rule.specs.Changing.{new-slot, last-identity}
 use Rattle.rule.specs.Meaning.{Finds, the-root}
 use Rattle.rule.specs.Calls.{Formats}
-use Rattle.rule.proofs.Plans.{clash-ok}
+use Rattle.rule.proofs.Plans.{clash-ok, bind-ok}
 use Rattle.rule.proofs.Blocks.{format-means}
+use Rattle.rule.proofs.Answered.{step-ok, find-means, read-means}
 use Rattle.history.specs.Events.{Phase, closed, opened, surveyed, State, Event, Has, Reads, find, path, read}
 use Rattle.history.specs.History.{Formatted, Moment, present, History, Deed, nothing, gives}
 use Rattle.history.specs.Laws.{Written, Made, OnTheWay, Reads-what-was-written, Finds-what-was-made, Paths-lead-to-what-was-made}
@@ -34,7 +37,6 @@ use Rattle.history.proofs.Log.{did, Wrote, MadeIn, wrote-earlier, made-earlier
 use Rattle.history.proofs.Stands.{May, view, may-shown, only-may, may-fewer, told-own, Logged, logged-more, Carded, Limits, Inv}
 use Rattle.history.proofs.Sorts.{Allowed, fresh-slot, slot-again, slot-blanked, fresh-body, file-again, folder-again, Fair}
 use Rattle.history.proofs.Moves.{Quiet, Busy, moves}
-use Rattle.history.proofs.Rules.{LeafHolds, step-ok, find-ok, read-ok}
 
 -- no call puts block 0
 allowed-above : (g : Geometry) (v : View) (high : ℕ) (d : Deed) (b : ℕ) (y : Content) → Allowed g v high d b y → 0 < b
@@ -182,26 +184,42 @@ history-inv g s (m ∷ ms) h =
 
 -- ---- the laws on reads and finds
 
-known-geometry : (g : Geometry) (m : _) (p : Phase) (x : Ready) (h : Geometry) → Carded g m p → Has p x → x ≡ Ok h → h ≡ g
-known-geometry g m closed x h c has live = absurd has
-known-geometry g m (opened o) x h c has live = c .1 h (has ∙ live) .0
-known-geometry g m (surveyed k) x h c has live = c h (has ∙ live) .0
+-- an accepted reading call was made on a card of this geometry
+known-ready : {A E : Type 0} (g : Geometry) (m : Model) (p : Phase) (x : Ready) (rule : Ready → Result A E) (a : A) →
+    ((r : Refusal) → rule (Err r) ≡ Ok a → ⊥) → Carded g m p → Has p x → Ok a ≡ rule x → rule (Ok g) ≡ Ok a
+known-ready g m p (Err r) rule a bad c has e = absurd (bad r (sym e))
+known-ready g m closed (Ok h) rule a bad c has e = absurd has
+known-ready g m (opened o) (Ok h) rule a bad c has e = ap (λ (y : Geometry). rule (Ok y)) (sym (c .1 h has .0)) ∙ sym e
+known-ready g m (surveyed k) (Ok h) rule a bad c has e = ap (λ (y : Geometry). rule (Ok y)) (sym (c h has .0)) ∙ sym e
+
+-- no call is accepted on a card that refuses every call
+bad-read : (h : Handle) (k room : ℕ) (shown : Shown) (x : List ℕ) (r : Refusal) → rule-of-reading.read h k room (Err r) shown ≡ Ok x → ⊥
+unfolding rule-of-reading.read
+bad-read h k room shown x r e =
+    let a = bind-ok _ _ x e in
+    let b = bind-ok _ _ x (a .2) in
+    clash-ok (b .1)
+
+bad-find : (f : Handle) (n : Name) (shown : Shown) (c : Handle) (r : Refusal) → rule-of-reading.find f n (Err r) shown ≡ Ok c → ⊥
+unfolding rule-of-reading.find
+bad-find f n shown c r e =
+    let a = bind-ok _ _ c e in
+    let b = bind-ok _ _ c (a .2) in
+    clash-ok (b .1)
 
 pub reads-stand : Reads-what-was-written
 reads-stand g s t ms h k room x hist = elim (hist .1 .turn) [
     inr w ↦ clash-ok (sym (w .2))
   | inl w ↦
-      (let a = read-ok h k room (hist .1 .ready) (present s ms .device .shown) x (sym (w .0)) in
-      let same = known-geometry g (present s ms .device) (present s ms .card) (hist .1 .ready) (a .0) (iv .card) (hist .1 .has) (a .1) in
-      let l : LeafHolds g (view g (present s ms .device)) h k x = subst (λ (y : Geometry). LeafHolds y (seen y (present s ms .device .shown)) h k x) same (a .2) in
+      (let iv = history-inv g s ms (hist .0) in
+      let u = present s ms in
+      let e = known-ready g (u .device) (u .card) (hist .1 .ready) (λ y. rule-of-reading.read h k room y (u .device .shown)) x (bad-read h k room (u .device .shown) x) (iv .card) (hist .1 .has) (w .0) in
+      let l = read-means h k room g (u .device .shown) x .0 e .1 in
       let b = number (l .slot) k in
-      wrote-earlier s ms h k x (iv .logged b (file-body (back h k) x) (may-shown g (present s ms .device) b (file-body (back h k) x) (l .body)))) ]
-  where
-    iv : Inv g s ms (present s ms)
-    iv = history-inv g s ms (hist .0)
+      wrote-earlier s ms h k x (iv .logged b (file-body (back h k) x) (may-shown g (u .device) b (file-body (back h k) x) (l .body)))) ]
 
 -- what find leads to at any point of a history
-pub found-made : (g : Geometry) (s : State) (ms : List Moment) → History g s ms → (f : Handle) (n : Name) (c : Handle) → Finds g (view g (present s ms .device)) f n c → Made s ms f n c
+found-made : (g : Geometry) (s : State) (ms : List Moment) → History g s ms → (f : Handle) (n : Name) (c : Handle) → Finds g (view g (present s ms .device)) f n c → Made s ms f n c
 found-made g s ms hist f n c d =
     let iv = history-inv g s ms hist in
     let b = number (d .sound .slot) (d .leaf) in
@@ -211,9 +229,9 @@ pub finds-stand : Finds-what-was-made
 finds-stand g s t ms f n c hist = elim (hist .1 .turn) [
     inr w ↦ clash-ok (sym (w .2))
   | inl w ↦
-      (let a = find-ok f n (hist .1 .ready) (present s ms .device .shown) c (sym (w .0)) in
-      let same = known-geometry g (present s ms .device) (present s ms .card) (hist .1 .ready) (a .0) (history-inv g s ms (hist .0) .card) (hist .1 .has) (a .1) in
-      found-made g s ms (hist .0) f n c (subst (λ (y : Geometry). Finds y (seen y (present s ms .device .shown)) f n c) same (a .2))) ]
+      (let u = present s ms in
+      let e = known-ready g (u .device) (u .card) (hist .1 .ready) (λ y. rule-of-reading.find f n y (u .device .shown)) c (bad-find f n (u .device .shown) c) (history-inv g s ms (hist .0) .card) (hist .1 .has) (w .0) in
+      found-made g s ms (hist .0) f n c (find-means f n g (u .device .shown) c .0 e .1)) ]
 
 on-the-way : (g : Geometry) (s : State) (ms : List Moment) → History g s ms → (a : Handle) (ns : List Name) (f : Handle) (n : Name) (c : Handle) →
     OnTheWay g (view g (present s ms .device)) a ns f n c → Made s ms f n c

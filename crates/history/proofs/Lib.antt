@@ -4,6 +4,11 @@ pub mod Log
 pub mod Stands
 pub mod Sorts
 pub mod Puts
-pub mod Rules
 pub mod Moves
 pub mod Invariant
+pub mod Trail
+pub mod Keep
+pub mod Leaves
+pub mod Settled
+pub mod Example
+pub mod Counts

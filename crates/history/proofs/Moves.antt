@@ -35,6 +35,7 @@ use Rattle.rule.specs.Changing as rule-of-changing
 use Rattle.rule.specs.Meaning.{Fits, Rooted, Finds}
 use Rattle.rule.specs.Calls.{Writes, Replaces, Appends, Shortens, Creates, Removes}
 use Rattle.rule.proofs.Plans.{clash-ok, bind-ok, demand-ok, ok-same, create-means, write-means, shorten-means, remove-means}
+use Rattle.rule.proofs.Answered.{find-means}
 use Rattle.history.specs.Events as events
 use Rattle.history.specs.Events.{Phase, closed, opened, surveyed, State, Event, Has, gone-at, Still, Gone, Reads, Accepted, Broken, By-plan, Changes, By-device, Syncs, Opens, By-step, Surveys, Ends, Step}
 use Rattle.history.specs.History.{Moment, present, Deed, created, wrote, shortened, removed, nothing, from-answer, planned, deed-on, deed, gives}
@@ -43,7 +44,6 @@ use Rattle.history.proofs.Log.{did, same-apart}
 use Rattle.history.proofs.Stands.{May, view, may-shown, only-may, may-fewer, Carded, Limits, Inv}
 use Rattle.history.proofs.Sorts.{Fair}
 use Rattle.history.proofs.Puts.{write-fair, shorten-fair, create-fair, fresh, remove-fair}
-use Rattle.history.proofs.Rules.{find-answers}
 
 -- ---- the two sorts of step
 
@@ -400,7 +400,7 @@ module _ (g : Geometry) (s : State) (ms : List Moment) (iv : Inv g s ms (present
       record {
         doing = removed h;
         done = ok-deed (rule-of-changing.remove f n c (u .device .shown)) (λ p. from-answer (rule-of-reading.find f n (c .ready) (u .device .shown)) removed) p ok
-            ∙ ok-deed (rule-of-reading.find f n (c .ready) (u .device .shown)) removed h (find-answers f n (c .ready) (u .device .shown) g h (rm .1 .name) live (rm .1 .found));
+            ∙ ok-deed (rule-of-reading.find f n (c .ready) (u .device .shown)) removed h (ap (λ (x : Ready). rule-of-reading.find f n x (u .device .shown)) live ∙ find-means f n g (u .device .shown) h .1 (rm .1 .name, rm .1 .found));
         counted = k .2;
         top = c .highest;
         rises = omega arith;

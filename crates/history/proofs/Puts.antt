@@ -16,7 +16,7 @@ use Rattle.device.specs.Model.{Model, Block, Stands}
 use Rattle.device.specs.Effect.{PutAt}
 use Rattle.device.specs.declared.put.Put.{Put}
 use Rattle.layout.specs.Format.{Name, Cell, Geometry, back, Slot, Content, blank, slotted, file-body, folder-body, Entry, entry, no-entry, body-number, all-bodies, plain-bytes, good-name, cell, blank-cell, parse, encode, entry-of}
-use Rattle.layout.specs.Identities.{entry-identity, highest-in, told}
+use Rattle.layout.specs.Identities.{entry-told, highest-in, told}
 use Rattle.rule.specs.Agree.{View, count, number}
 use Rattle.rule.specs.Card.{Card, Plan}
 use Rattle.rule.specs.Changing.{grown, cut-to, new-slot, last-identity, store, store-slot}
@@ -28,7 +28,7 @@ use Rattle.history.specs.Laws.{Touches}
 use Rattle.history.proofs.Trips.{Formed, Backed, Cells, slot-trip, file-trip, folder-trip, blank-trip, entry-trip, cell-length, slot-whole, file-whole, folder-whole, blank-whole}
 use Rattle.history.proofs.Parsed.{slot-parsed, folder-parsed, body-at, set-cells, blank-cells, blank-entry, child-parsed, no-such-entry, entry-child, entry-name}
 use Rattle.history.proofs.Log.{did, Wrote, MadeIn, same-apart}
-use Rattle.history.proofs.Stands.{May, view, may-shown, told-own, told-parent, told-entry, entry-identity-of, highest-set, highest-blank, set-cases, blank-at, Logged, logged-more, Limits, Inv}
+use Rattle.history.proofs.Stands.{May, view, may-shown, told-own, told-parent, told-entry, entry-tells, highest-set, highest-new, set-cases, blank-at, Logged, logged-more, Limits, Inv}
 use Rattle.history.proofs.Sorts.{Hollow, FreshSlot, SlotAgain, SlotBlanked, FreshBody, FileAgain, FolderAgain, Allowed, fresh-slot, slot-again, slot-blanked, fresh-body, file-again, folder-again, Fair}
 
 bodies-push : (g : Geometry) (xs : List ℕ) (b : ℕ) → all-bodies g xs ≡ true → g .slots < b → b < g .blocks → all-bodies g (xs ++ (b ∷ [])) ≡ true
@@ -165,7 +165,7 @@ module _ (g : Geometry) (s : State) (ms : List Moment) (u : State) (iv : Inv g s
   folder-cells-of f b k es up low e = folder-parsed g b (u .device .shown b) (back f k) es up low (iv .whole b (u .device .shown b) low (u .device .among b)) e
 
   again-fair : (ns : List Moment) (d : Deed) (top b : ℕ) (z : Block) (f : Handle) (r : Slot) (k p : ℕ) (es : List Cell) (e : Cell) →
-      high ≤ top → Fits g v f r → (l : k < count r) (there : v (number r k) ≡ folder-body (back f k) es) → length e ≡ 32 → entry-identity (entry-of g e) ≤ top →
+      high ≤ top → Fits g v f r → (l : k < count r) (there : v (number r k) ≡ folder-body (back f k) es) → length e ≡ 32 → entry-told (entry-of g e) ≤ top →
       Allowed g v high d (number r k) (folder-body (back f k) (set es p e)) →
       Logged g s ns (folder-body (back f k) (set es p e)) →
       b ≡ number r k → z ≡ encode (folder-body (back f k) (set es p e)) → Fair g v s ns d high top b z
@@ -216,8 +216,8 @@ module _ (g : Geometry) (s : State) (ms : List Moment) (u : State) (iv : Inv g s
         let x = and-parts (leb 1 (length n)) (leb (length n) 24 && plain-bytes n) (cr .name) in
         leb-true (length n) 24 (and-parts (leb (length n) 24) (plain-bytes n) (x .1) .0)
 
-    entry-low : entry-identity (entry-of g (cell n a)) ≤ suc high
-    entry-low = let w = entry-identity-of (entry-of g (cell n a)) n a entry-new in let o = own in omega arith
+    entry-low : entry-told (entry-of g (cell n a)) ≤ suc high
+    entry-low = let w = entry-tells (entry-of g (cell n a)) n a entry-new in let o = own in omega arith
 
     made-new : (e : Cell) (nm : Name) (h : Handle) → e ≡ cell n a → entry-of g e ≡ entry nm h → MadeIn s (m ∷ ms) h f nm
     made-new e nm h ee q =
@@ -249,7 +249,7 @@ module _ (g : Geometry) (s : State) (ms : List Moment) (u : State) (iv : Inv g s
         inl e ↦ fair-at s (m ∷ ms) (created d f n a) (suc high) b (q .block) z new-body (e .0) (e .1)
             (folder-trip g thin small (q .block) (back f (count (cr .slot))) (cell n a ∷ replicate 14 blank-cell) (q .free .above) (q .free .inside) (backed f (cr .slot) (count (cr .slot)) fit (q .room)) refl (cell-length n a name-short, blank-cells 14))
             (fresh-body (record { free = q .free; sort = inr (f, cr .slot, cell n a ∷ replicate 14 blank-cell, fit, refl) }))
-            (let w = highest-blank g 14 in let o = entry-low in let b = below in omega arith)
+            (let w = highest-new g (cell n a) 14 (suc high) entry-low in let b = below in omega arith)
             logged (folder-whole (back f (count (cr .slot))) (cell n a ∷ replicate 14 blank-cell) refl (cell-length n a name-short, blank-cells 14))
       | inr (inl e) ↦ grown-fair (m ∷ ms) (created d f n a) (suc high) b (q .block) z f (cr .slot) (omega arith) fit (q .room) (q .free) (inl (cr .standing .kind)) (e .0) (e .1)
       | inr (inr e) ↦ absurd e ]
@@ -283,7 +283,7 @@ module _ (g : Geometry) (s : State) (ms : List Moment) (u : State) (iv : Inv g s
     pub remove-fair : (b : ℕ) (z : Block) → PutAt b z (p .puts) → Fair g v s (m ∷ ms) (removed h) high high b z
     remove-fair b z put = elim (subst (λ (l : List Put). PutAt b z l) (rm .blocks) put) [
         inl e ↦ again-fair (m ∷ ms) (removed h) high b z f (fd .sound .slot) (fd .leaf) (fd .place) (fd .sound .cells) blank-cell
-            (omega arith) (fd .sound .fits) (fd .sound .below) (fd .sound .body) refl (let w = ap entry-identity (blank-entry g) in omega arith)
+            (omega arith) (fd .sound .fits) (fd .sound .below) (fd .sound .body) refl (let w = ap entry-told (blank-entry g) in omega arith)
             (folder-again (record {
               handle = f; leaf = fd .leaf; place = fd .place; cells = fd .sound .cells; above = leaf-block f (fd .sound .slot) (fd .leaf) (fd .sound .fits) (fd .sound .below) .0;
               stood = fd .sound .body; new = blank-cell; content = refl; sort = inr (n, h, blank-entry g, fd .sound .here, rm .hollow, refl);

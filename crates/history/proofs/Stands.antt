@@ -12,7 +12,7 @@ use Rattle.base.specs.declared.owner.Handle.{Handle}
 use Rattle.base.specs.declared.owner.Back.{Back}
 use Rattle.device.specs.Model.{Model, Block, Stands, OnlyShown}
 use Rattle.layout.specs.Format.{Name, Cell, Geometry, back, Slot, Content, blank, cover, slotted, file-body, folder-body, ill-formed, Entry, entry, no-entry, blank-cell, cover-of, parse, entry-of}
-use Rattle.layout.specs.Identities.{entry-identity, highest-in, told}
+use Rattle.layout.specs.Identities.{entry-told, highest-in, told}
 use Rattle.rule.specs.Agree.{View, seen}
 use Rattle.rule.specs.Card.{Card, Opened}
 use Rattle.rule.specs.Changing.{last-identity}
@@ -49,25 +49,33 @@ told-parent g r = omega arith
 pub told-owner : (g : Geometry) (b : Back) (es : List Cell) → b .owner .identity .0 ≤ told g (folder-body b es)
 told-owner g b es = omega arith
 
-pub entry-identity-of : (e : Entry) (n : Name) (c : Handle) → e ≡ entry n c → entry-identity e ≡ c .identity .0
-entry-identity-of e n c p = ap entry-identity p
+pub entry-tells : (e : Entry) (n : Name) (c : Handle) → e ≡ entry n c → entry-told e ≡ c .identity .0
+entry-tells e n c p = ap entry-told p
 
 highest-at : (g : Geometry) (es : List Cell) (q : ℕ) (n : Name) (c : Handle) → entry-of g (getD es q []) ≡ entry n c → c .identity .0 ≤ highest-in g es
+unfolding highest-in
 highest-at g [] q n c e = no-such-entry (past-entry g) e
-highest-at g (x ∷ es) zero n c e = let z = entry-identity-of (entry-of g x) n c e in omega arith
+highest-at g (x ∷ es) zero n c e = let z = entry-tells (entry-of g x) n c e in omega arith
 highest-at g (x ∷ es) (suc q) n c e = let z = highest-at g es q n c e in omega arith
 
 pub told-entry : (g : Geometry) (b : Back) (es : List Cell) (q : ℕ) (n : Name) (c : Handle) → entry-of g (getD es q []) ≡ entry n c → c .identity .0 ≤ told g (folder-body b es)
 told-entry g b es q n c e = let z = highest-at g es q n c e in omega arith
 
-pub highest-set : (g : Geometry) (es : List Cell) (p : ℕ) (e : Cell) (top : ℕ) → entry-identity (entry-of g e) ≤ top → highest-in g es ≤ top → highest-in g (set es p e) ≤ top
+pub highest-set : (g : Geometry) (es : List Cell) (p : ℕ) (e : Cell) (top : ℕ) → entry-told (entry-of g e) ≤ top → highest-in g es ≤ top → highest-in g (set es p e) ≤ top
+unfolding highest-in
 highest-set g [] p e top a b = b
 highest-set g (x ∷ es) zero e top a b = omega arith
 highest-set g (x ∷ es) (suc p) e top a b = let z = highest-set g es p e top a (omega arith) in omega arith
 
-pub highest-blank : (g : Geometry) (n : ℕ) → highest-in g (replicate n blank-cell) ≡ 0
+highest-blank : (g : Geometry) (n : ℕ) → highest-in g (replicate n blank-cell) ≡ 0
+unfolding highest-in
 highest-blank g zero = refl
-highest-blank g (suc n) = let a = highest-blank g n in let b = ap entry-identity (blank-entry g) in omega arith
+highest-blank g (suc n) = let a = highest-blank g n in let b = ap entry-told (blank-entry g) in omega arith
+
+-- one entry, and no other
+pub highest-new : (g : Geometry) (e : Cell) (n top : ℕ) → entry-told (entry-of g e) ≤ top → highest-in g (e ∷ replicate n blank-cell) ≤ top
+unfolding highest-in
+highest-new g e n top l = let a = highest-blank g n in omega arith
 
 -- what a set leaves at a place
 pub set-cases : (es : List Cell) (p q : ℕ) (e : Cell) → ((p ≡ q) × (getD (set es p e) q [] ≡ e)) ⊎ (getD (set es p e) q [] ≡ getD es q [])

@@ -188,7 +188,7 @@ pub changed-at : (k : ℕ) (e : Cell) (xs : List Cell) → k < length xs → Cha
 changed-at k e xs lt = record { there = getD-set-same xs k e [] lt; elsewhere = λ j ne. getD-set-other xs k j e [] ne }
 
 -- the cells of a folder's leaf are whole, and stay so
-whole-of : (n : ℕ) (z : List ℕ) → 32 * n ≤ length z → whole-cells (cells-of n z) ≡ true
+pub whole-of : (n : ℕ) (z : List ℕ) → 32 * n ≤ length z → whole-cells (cells-of n z) ≡ true
 whole-of zero z h = refl
 whole-of (suc n) z h =
     and-from (eqb (length (take 32 z)) 32) (whole-cells (cells-of n (drop 32 z))) (eq-eqb (length (take 32 z)) 32 (length-take-le 32 z (omega arith)))

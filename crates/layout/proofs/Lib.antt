@@ -2,3 +2,4 @@ pub mod Numbers
 pub mod Cells
 pub mod Parsing
 pub mod Back
+pub mod Again

@@ -10,6 +10,7 @@ use Rattle.base.specs.declared.owner.Handle.{Handle}
 use Rattle.base.specs.declared.owner.Back.{Back}
 use Rattle.device.specs.Model.{Block}
 use Rattle.layout.specs.Format.{Geometry, Slot, Name, Cell, Content, blank, cover, slotted, file-body, folder-body, ill-formed, entry, in-limits, leaf-limit, all-bodies, region, cover-region, slot-region, body-region, parse, entry-of, good-name}
+use Rattle.layout.specs.Entries.{State, blank as empty, well-formed, ill-formed as misshapen}
 
 -- an identity is from 1 and has four bytes
 abbrev pub IdentityFits : ℕ → Type 0
@@ -63,3 +64,17 @@ ReadAsEntry n c e = (g : Geometry) → in-limits (g .blocks) (g .slots) ≡ true
 pub record ChangedAt (k : ℕ) (e : Cell) (xs ys : List Cell) : Type 0 where
   pub there : getD ys k [] ≡ e
   pub elsewhere : (j : ℕ) → (j ≡ k → ⊥) → getD ys j [] ≡ getD xs j []
+
+-- an entry that is well formed keeps its ranges
+abbrev pub EntryRanged : Geometry → State → Type 0
+EntryRanged g empty = Unit {0}
+EntryRanged g (well-formed n c) = (good-name n ≡ true) × ChildFits g c
+EntryRanged g misshapen = Unit {0}
+
+-- every number of the list is a byte
+abbrev pub Bytes : List ℕ → Type 0
+Bytes z = (i : ℕ) → getD z i 0 < 256
+
+-- what a block of 512 bytes is read as, if not as ill formed, may be written there again
+abbrev pub Rewritable : Geometry → ℕ → Block → Type 0
+Rewritable g b z = Bytes z → length z ≡ 512 → (c : Content) → parse g b z ≡ c → (c ≡ ill-formed → ⊥) → Writable g b c

@@ -7,6 +7,7 @@ ghost use Rattle.std.specs.Options.{Cases as BySome};
 ghost use Rattle.layout.specs.Format.{all-bodies, numbers-of, cover, ill-formed, cover-of, slot-of, by-kind, slot-region, body-region, parse as parsed};
 ghost use Rattle.layout.specs.Sizes.{sizes};
 ghost use Rattle.layout.specs.Head.{body-of, slot-head, body-head, slot-head-fits, body-head-fits, slot-by, file-body-by, folder-body-by};
+ghost use Rattle.layout.specs.Laws.{Writable};
 ghost use Rattle.layout.specs.View.{view, Sized, all-numbers};
 use crate::geometry::Geometry;
 use crate::number::number16;
@@ -312,6 +313,7 @@ fn in_bodies<'a>(g: &Geometry, block: &'a [u8]) -> Block<'a>
 // What block `at` holds, by its bytes.
 pub fn parse<'a>(g: &Geometry, at: BlockNo, block: &'a [u8; 512]) -> Block<'a>
     ensures means { λ r. ⌜ view r ≡ parsed (sizes (now (g .entry))) (at .0) (now (block .entry)) ⌝ }
+    ensures ranged { λ r. ⌜ ((view r ≡ ill-formed → ⊥) → Writable (sizes (now (g .entry))) (at .0) (view r)) ⌝ }
     ensures sized { λ r. ⌜ Sized r ⌝ }
 {
     match g.region(at) {

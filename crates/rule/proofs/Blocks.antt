@@ -1,25 +1,21 @@
 -- The blocks of a call: each goes at most once, and what a format leaves.
 use Prim.Native.Nat.{ℕ, zero, suc, _+_, _-_, _≤_, _<_}
-use mathlib.Core.Path.{_≡_, refl, sym, ap, subst, _∙_}
-use mathlib.Core.List.{List, [], _∷_, _++_}
-use mathlib.Core.Bool.{Bool, true, false, cond, _&&_}
+use mathlib.Core.Path.{_≡_, refl, sym, subst, _∙_}
+use mathlib.Core.List.{List, [], _∷_}
+use mathlib.Core.Bool.{true, _&&_}
 use mathlib.Core.Logic.{_⊎_, inl, inr}
 use native.Mathlib.Omega.{arith}
-use lib.ListN.{length, getD, replicate}
-use lib.Dec.{eqb, leb, ltb}
-use Rattle.std.specs.declared.result.Result.the-variants.{Ok, Err}
-use Rattle.std.proofs.shelf.Tests.{and-parts, leb-true, ne-eqb, eq-eqb, cond-true, cond-false, cases-order, cases-lt}
-use Rattle.base.specs.declared.owner.Kind.{Kind}
+use lib.Dec.{eqb, leb}
+use Rattle.std.proofs.shelf.Tests.{and-parts, leb-true, ne-eqb, eq-eqb, cond-true, cond-false, cases-lt}
 use Rattle.base.specs.declared.owner.Handle.{Handle}
 use Rattle.device.specs.declared.put.Put.{Put}
 use Rattle.device.specs.Model.{Block, put}
-use Rattle.device.specs.Effect.{puts}
-use Rattle.layout.specs.Format.{Name, Geometry, Slot, blank, in-limits, cell, encode}
-use Rattle.rule.specs.Agree.{Shown, View, seen, count, number, from}
-use Rattle.rule.specs.Card.{Card, Plan}
-use Rattle.rule.specs.Changing.{store, blanks, format}
+use Rattle.device.specs.Effect.{puts, PutAt}
+use Rattle.layout.specs.Format.{Geometry, Slot, blank, in-limits, cell, encode}
+use Rattle.rule.specs.Agree.{Shown, seen, count, number, from}
+use Rattle.rule.specs.Changing.{blanks, format}
 use Rattle.rule.specs.Meaning.{Fits}
-use Rattle.rule.specs.Calls.{Apart, Once, Creates, InPlace, OnNewLeaf, Writes, Replaces, Appends, Shortens, Removes, Create-once, Write-once, Shorten-once, Remove-once, Format-once, Formats, Format-means}
+use Rattle.rule.specs.Calls.{Apart, Once, InPlace, OnNewLeaf, Replaces, Appends, Create-once, Write-once, Shorten-once, Remove-once, Format-once, Puts-show, Formats, Format-means}
 use Rattle.rule.proofs.Formed.{slot-formed, body-at}
 use Rattle.rule.proofs.Plans.{bind-ok, check-ok, ok-same}
 
@@ -54,6 +50,23 @@ pub remove-once : Remove-once
 remove-once g shown c f n child p w =
     let far = leaf-behind g shown f (w .found .sound .slot) (w .found .leaf) (w .found .sound .fits) (w .found .sound .below) in
     subst Once (sym (w .blocks)) ((λ e. absurd (omega (arith, far, w .found .sound .child-fits .inside, e)), tt), (tt, tt))
+
+-- ---- what is shown after
+
+puts-apart : (f : Shown) (ws : List Put) (b : ℕ) → Apart b ws → puts f ws b ≡ f b
+puts-apart f [] b a = refl
+puts-apart f (w ∷ ws) b (e, a) = puts-apart (put f (w .block .0) (w .bytes)) ws b a ∙ cond-false (eqb b (w .block .0)) (w .bytes) (f b) (ne-eqb b (w .block .0) e)
+
+puts-at : (f : Shown) (ws : List Put) (b : ℕ) (z : Block) → Once ws → PutAt b z ws → puts f ws b ≡ z
+puts-at f [] b z o a = absurd a
+puts-at f (w ∷ ws) b z (o, p) (inl a) =
+    puts-apart (put f (w .block .0) (w .bytes)) ws b (subst (λ (i : ℕ). Apart i ws) (sym (a .0)) o)
+    ∙ cond-true (eqb b (w .block .0)) (w .bytes) (f b) (eq-eqb b (w .block .0) (a .0))
+    ∙ sym (a .1)
+puts-at f (w ∷ ws) b z (o, p) (inr a) = puts-at (put f (w .block .0) (w .bytes)) ws b z p a
+
+pub puts-show : Puts-show
+puts-show f ws o = (λ b z a. puts-at f ws b z o a, puts-apart f ws)
 
 -- ---- format
 

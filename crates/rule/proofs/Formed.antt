@@ -1,10 +1,10 @@
 -- What a block that was read says of its place and its numbers.
-use Prim.Native.Nat.{ℕ, zero, suc, _+_, _≤_, _<_}
-use mathlib.Core.Path.{_≡_, refl, sym, ap, subst, _∙_}
-use mathlib.Core.List.{List, [], _∷_, _++_}
+use Prim.Native.Nat.{ℕ, zero, suc, _≤_, _<_}
+use mathlib.Core.Path.{_≡_, refl, sym, ap, subst}
+use mathlib.Core.List.{List, [], _∷_}
 use mathlib.Core.Bool.{Bool, true, false, cond, _&&_}
 use native.Mathlib.Omega.{arith}
-use lib.ListN.{length, getD, take, drop}
+use lib.ListN.{length, getD, drop}
 use lib.Dec.{eqb, leb, ltb}
 use Rattle.std.proofs.shelf.Tests.{and-parts, eqb-false, leb-true, leb-false, ltb-true, cond-both}
 use Rattle.std.proofs.shelf.Lists.{length-take}
@@ -69,7 +69,7 @@ region-is g b = go (eqb b 0) (leb b (g .slots)) (ltb b (g .blocks)) refl refl re
     go false false false f h k = tt
 
 module _ (g : Geometry) (b : ℕ) (z : Block) where
-  cover-formed : Formed g b (cover-of z)
+  pub cover-formed : Formed g b (cover-of z)
   unfolding Formed
   cover-formed =
       cond-both (eqb (getD z 0 0) 1 && (eqb (getD z 1 0) 1 && in-limits (le16 z 2) (le16 z 4))) _ ill-formed (Formed g b)
@@ -160,3 +160,7 @@ body-at g (n ∷ ns) zero e l =
     let c = and-parts (ltb (g .slots) n) (ltb n (g .blocks)) (a .0) in
     (ltb-true (g .slots) n (c .0), ltb-true n (g .blocks) (c .1))
 body-at g (n ∷ ns) (suc k) e l = body-at g ns k (and-parts (body-number g n) (all-bodies g ns) e .1) (omega arith)
+
+pub cover-limits : (z : Block) (g : Geometry) → cover-of z ≡ cover g → in-limits (g .blocks) (g .slots) ≡ true
+unfolding Formed
+cover-limits z g e = subst (Formed g 0) e (cover-formed g 0 z)

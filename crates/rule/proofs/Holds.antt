@@ -1,5 +1,5 @@
 -- The cases compute.
-use mathlib.Core.Path.{_≡_, refl}
+use mathlib.Core.Path.{refl}
 use Rattle.layout.specs.Format.{parse, encode, entry-of}
 use Rattle.layout.specs.Identities.{highest-in}
 use Rattle.rule.specs.Check.{_>>=_, check, demand}
@@ -10,5 +10,5 @@ use Rattle.rule.specs.Run.{put-all, settled, landed, act, replies}
 use Rattle.rule.specs.Cases.{Cases-hold}
 
 pub cases-hold : Cases-hold
-unfolding _>>=_ check demand highest-in fits kind-is reading changing step named parse encode entry-of create write shorten remove format at-component all-named walk path find list damage status space read opening survey-step surveyed placed untaken replaces appends synced sync act replies put-all landed settled
+unfolding _>>=_ highest-in check demand fits kind-is reading changing step named parse encode entry-of create write shorten remove format at-component all-named walk path find list damage status space read opening survey-step surveyed placed untaken replaces appends synced sync act replies put-all landed settled
 cases-hold = refl

@@ -5,6 +5,14 @@ pub mod Means
 pub mod Free
 pub mod Formed
 pub mod Plans
-mod Holds
-mod Needed
+pub mod Holds
+pub mod Needed
 pub mod Blocks
+pub mod Answered
+pub mod Lines
+pub mod Accepted
+pub mod Full
+pub mod Moving
+pub mod WriteMoves
+pub mod CreateMoves
+pub mod RemoveMoves

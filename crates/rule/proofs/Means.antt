@@ -1,27 +1,27 @@
 -- What computes is the relation.
 use Prim.Native.Nat.{ℕ, zero, suc, _+_, _≤_, _<_}
 use mathlib.Core.Path.{_≡_, refl, sym, ap, subst, _∙_}
-use mathlib.Core.List.{List, [], _∷_, _++_}
+use mathlib.Core.List.{List, []}
 use mathlib.Core.Bool.{Bool, true, false, cond, _&&_}
-use mathlib.Core.Logic.{_⊎_, inl, inr, _↔_}
+use mathlib.Core.Logic.{_⊎_, inl, inr}
 use Rattle.std.specs.declared.option.Option.{Option}
 use Rattle.std.specs.declared.option.Option.the-variants.{Some, None}
 use native.Mathlib.Omega.{arith}
 use lib.ListN.{length, getD, List·getD-eq-default}
 use lib.Dec.{eqb, ltb}
-use Rattle.std.proofs.shelf.Tests.{cases-lt, cases-order, and-parts, and-from, eqb-true, eq-eqb, ltb-true, lt-ltb, cases-bool, cond-true}
+use Rattle.std.proofs.shelf.Tests.{cases-lt, and-parts, and-from, eqb-true, eq-eqb, ltb-true, lt-ltb, cond-true}
 use Rattle.base.specs.declared.owner.Kind.{Kind}
-use Rattle.base.specs.declared.owner.Kind.the-variants.{File, Folder}
+use Rattle.base.specs.declared.owner.Kind.the-variants.{Folder}
 use Rattle.base.specs.declared.owner.Handle.{Handle}
 use Rattle.base.specs.declared.owner.Back.{Back}
 use Rattle.layout.specs.Format.{Name, Cell, Geometry, handle, back, Slot, Content, blank, cover, slotted, file-body, folder-body, ill-formed, Entry, entry, no-entry, entry-of}
-use Rattle.rule.specs.Agree.{View, slot-at, slot-in, count, number, back-in, good, names, Place, places, places-of, places-over, from, cells-in, agrees, sound, has-name, leads-to, found, lists, first, some-is, given, same-handle, same-bytes, root, parent-of, reached, climbs, held}
+use Rattle.rule.specs.Agree.{View, slot-at, slot-in, count, number, back-in, good, names, Place, places, cells-in, agrees, sound, has-name, leads-to, lists, first, some-is, given, same-handle, root, parent-of, reached, climbs, held}
 use Rattle.rule.specs.Meaning.{Fits, Body, Good, Sound, Reached, the-root, under, Before, Finds, Held, FreeSlot, FreeBody, Rooted, Found-is-found, Good-is-good, Reached-is-reached, Held-is-held}
 use Rattle.rule.proofs.Steps.{clash, clash-none, given-some, some-is-true, cond-some, handle-true, handle-same, bytes-true, bytes-refl, names-true, names-from}
 use Rattle.rule.proofs.Places.{at, cells-at, First-cell, cell-first, cell-none, First-leaf, leaf-first, leaf-none}
 use Rattle.rule.proofs.Walks.{climbs-root, climbs-up, climbs-parts, climbs-within}
 
-slot-in-some : (c : Content) (r : Slot) → slot-in c ≡ Some r → c ≡ slotted r
+pub slot-in-some : (c : Content) (r : Slot) → slot-in c ≡ Some r → c ≡ slotted r
 slot-in-some (slotted q) r e = let z : q ≡ r = cc in ap {B = Content} slotted z
 slot-in-some blank r e = clash-none e
 slot-in-some (cover g) r e = clash-none e

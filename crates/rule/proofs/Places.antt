@@ -2,16 +2,16 @@
 use Prim.Native.Nat.{ℕ, zero, suc, _+_, _≤_, _<_}
 use mathlib.Core.Path.{_≡_, refl, sym, ap, subst, _∙_}
 use mathlib.Core.List.{List, [], _∷_, _++_}
-use mathlib.Core.Bool.{Bool, true, false, cond, _&&_}
+use mathlib.Core.Bool.{Bool, true, false, cond}
 use mathlib.Core.Logic.{_⊎_, inl, inr}
 use Rattle.std.specs.declared.option.Option.{Option}
 use Rattle.std.specs.declared.option.Option.the-variants.{Some, None}
 use native.Mathlib.Omega.{arith}
 use lib.ListN.{length, getD}
-use Rattle.std.proofs.shelf.Tests.{cases-lt, cases-order}
+use Rattle.std.proofs.shelf.Tests.{cases-lt}
 use Rattle.base.specs.declared.owner.Handle.{Handle}
 use Rattle.layout.specs.Format.{Cell, Slot}
-use Rattle.rule.specs.Agree.{View, first, Place, places-of, places-over, places, from, cells-in, good, number, count}
+use Rattle.rule.specs.Agree.{View, first, Place, places-of, places-over, from, cells-in, good, number}
 use Rattle.rule.proofs.Steps.{clash, clash-none, first-append, first-append-none}
 
 abbrev pub at : ℕ → ℕ → Cell → Place

@@ -1,8 +1,8 @@
 -- Taking an accepted plan apart, check by check.
-use Prim.Native.Nat.{ℕ, zero, suc, _+_, _-_, _≤_, _<_}
+use Prim.Native.Nat.{ℕ, suc, _+_, _≤_, _<_}
 use mathlib.Core.Path.{_≡_, refl, sym, ap, subst, _∙_}
-use mathlib.Core.List.{List, [], _∷_, _++_}
-use mathlib.Core.Bool.{Bool, true, false, cond, not, _&&_}
+use mathlib.Core.List.{List, [], _∷_}
+use mathlib.Core.Bool.{Bool, true, false, cond, not}
 use mathlib.Core.Logic.{_⊎_, inl, inr}
 use native.Mathlib.Omega.{arith}
 use native.Mathlib.Nat.{zero-add}
@@ -16,20 +16,19 @@ use Rattle.std.proofs.shelf.Tests.{and-parts, eqb-true, eqb-false, leb-true, lt
 use Rattle.base.specs.declared.owner.Kind.{Kind}
 use Rattle.base.specs.declared.owner.Kind.the-variants.{File, Folder}
 use Rattle.base.specs.declared.owner.Handle.{Handle}
-use Rattle.base.specs.declared.owner.Back.{Back}
 use Rattle.base.specs.declared.refusal.Refusal.{Refusal}
 use Rattle.device.specs.declared.put.Put.{Put}
-use Rattle.layout.specs.Format.{Name, Cell, Geometry, handle, back, Slot, Content, blank, file-body, folder-body, Entry, entry, entry-of, good-name, cell, blank-cell, leaf-limit}
-use Rattle.rule.specs.Agree.{Shown, Place, places, sound, found, cells-in, free-slot, View, seen, same-kind, slot-at, count, number, good, names, free-body, reached, first, some-is}
-use Rattle.rule.specs.Check.{Answer, _>>=_, check, demand}
+use Rattle.layout.specs.Format.{Name, Cell, Geometry, handle, back, Slot, Content, blank, file-body, folder-body, entry-of, cell, blank-cell, leaf-limit}
+use Rattle.rule.specs.Agree.{Place, places, sound, found, cells-in, View, seen, same-kind, count, number, good, names, reached, first, some-is}
+use Rattle.rule.specs.Check.{_>>=_, check, demand}
 use Rattle.rule.specs.Card.{Card, Plan}
 use Rattle.rule.specs.Reading.{fits, kind-is, named, child-of}
-use Rattle.rule.specs.Changing.{store, store-slot, with-cell, open-place, untaken, placed, create, new-slot, changing, replaces, appends, below-count, write, shorten, grown, cut-to, has-entries, remove, last-identity, keeps}
-use Rattle.rule.specs.Meaning.{Fits, Body, Good, Sound, Reached, Before, Finds, Rooted}
-use Rattle.rule.specs.Calls.{Standing, OverGood, SoundAt, InPlace, OnNewLeaf, Creates, Create-means, Replaces, Appends, Writes, Write-means, Shortens, Shorten-means, Removes, Remove-means}
+use Rattle.rule.specs.Changing.{store, store-slot, with-cell, open-place, untaken, placed, create, changing, replaces, appends, below-count, write, shorten, grown, cut-to, has-entries, remove, last-identity}
+use Rattle.rule.specs.Meaning.{Fits, Body, Before, Finds, Rooted}
+use Rattle.rule.specs.Calls.{Standing, OverGood, SoundAt, InPlace, OnNewLeaf, Creates, Create-means, Replaces, Appends, Write-means, Shorten-means, Remove-means}
 use Rattle.rule.proofs.Places.{First-leaf, leaf-first, leaf-none, First-cell, cell-first, cell-none, cells-at, at}
-use Rattle.rule.proofs.Means.{Agreed, agrees-true, fits-at, fits-from, leaf-is, good-from, sound-listed, found-is-found, none-sound, reached-fits, same-slot}
-use Rattle.rule.proofs.Steps.{clash, clash-none, names-true, names-folder, some-is-true}
+use Rattle.rule.proofs.Means.{agrees-true, fits-at, fits-from, leaf-is, good-from, sound-listed, found-is-found, none-sound, reached-fits, same-slot}
+use Rattle.rule.proofs.Steps.{clash, names-true}
 use Rattle.rule.proofs.Free.{slot-given, body-given}
 
 pub clash-ok : {A B E : Type 0} {a : A} {r : E} → Err r ≡ Ok a → B
@@ -53,7 +52,7 @@ demand-ok (Some x) r a e = let s : x ≡ a = cc in ap {B = Option _} Some s
 pub ok-same : {A E : Type 0} {a b : A} → _≡_ {A = Result A E} (Ok a) (Ok b) → a ≡ b
 ok-same e = cc
 
-kind-true : (a b : Kind) → same-kind a b ≡ true → a ≡ b
+pub kind-true : (a b : Kind) → same-kind a b ≡ true → a ≡ b
 kind-true File File e = refl
 kind-true File Folder e = clash e
 kind-true Folder File e = clash e
@@ -89,7 +88,7 @@ standing g v d h r rooted w = record { fits = w .fits; reached = reached-fits g 
 -- ---- write and shorten
 
 -- a good leaf of a file
-file-leaf : (v : View) (h : Handle) (r : Slot) (k : ℕ) → r .kind ≡ File → good v h r k ≡ true → (k < count r) × ((old : List ℕ) × (v (number r k) ≡ file-body (back h k) old))
+pub file-leaf : (v : View) (h : Handle) (r : Slot) (k : ℕ) → r .kind ≡ File → good v h r k ≡ true → (k < count r) × ((old : List ℕ) × (v (number r k) ≡ file-body (back h k) old))
 file-leaf v h r k d e =
     let w = and-parts (ltb k (count r)) (names (r .kind) (back h k) (v (number r k))) e in
     (ltb-true k (count r) (w .0), go (names-true (r .kind) (back h k) (v (number r k)) (w .1)))
@@ -185,11 +184,11 @@ module _ (g : Geometry) (v : View) (f : Handle) (r : Slot) (fit : Fits g v f r) 
   shut q = not (sound g v f q)
 
   -- no place passes: every entry over good leaves is sound
-  all-sound : open-place g v f r ≡ None → (j q : ℕ) → OverGood v f r j q → SoundAt g v f j q
+  pub all-sound : open-place g v f r ≡ None → (j q : ℕ) → OverGood v f r j q → SoundAt g v f j q
   all-sound e j q o =
       sound-at j q o (not-false _ (cell-none shut j 0 (cells-at v r j) (leaf-none shut v f r 0 (count r) e j (omega arith) (omega (arith, o .below)) (over-good j q o)) q (over-inside j q o)))
 
-  in-place : (c : Card) (e : Cell) (q : Place) → open-place g v f r ≡ Some q → InPlace g v c f r e (with-cell v f r q e ∷ []) (c .next-body)
+  pub in-place : (c : Card) (e : Cell) (q : Place) → open-place g v f r ≡ Some q → InPlace g v c f r e (with-cell v f r q e ∷ []) (c .next-body)
   in-place c e q h = leaf (leaf-first shut v f r 0 (count r) q h)
     where
       leaf : First-leaf shut v f r 0 (count r) q → InPlace g v c f r e (with-cell v f r q e ∷ []) (c .next-body)
@@ -286,7 +285,7 @@ is-hollow g v h e k q (n, c, s) = go (first (sound g v h) (places v h (s .slot))
     go (Some a) is = clash (sym e ∙ opened ∙ ap (λ (o : Option Place). some-is o (λ q. true)) is)
 
 -- the body with another cell, in the words of what was found
-found-cell : (g : Geometry) (v : View) (f : Handle) (r : Slot) (n : Name) (c : Handle) (q : Place) (e : Cell) → Fits g v f r → (s : Finds g v f n c) → q .leaf ≡ s .leaf → q .place ≡ s .place →
+pub found-cell : (g : Geometry) (v : View) (f : Handle) (r : Slot) (n : Name) (c : Handle) (q : Place) (e : Cell) → Fits g v f r → (s : Finds g v f n c) → q .leaf ≡ s .leaf → q .place ≡ s .place →
     with-cell v f r q e ≡ store (number (s .sound .slot) (s .leaf)) (folder-body (back f (s .leaf)) (set (s .sound .cells) (s .place) e))
 found-cell g v f r n c q e fit s leaf place =
     ap (λ (z : Slot). with-cell v f z q e) (same-slot g v f r (s .sound .slot) fit (s .sound .fits))

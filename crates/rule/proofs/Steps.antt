@@ -1,21 +1,20 @@
 -- Taking executable tests apart.
-use Prim.Native.Nat.{ℕ, zero, suc, _+_, _≤_, _<_}
-use mathlib.Core.Path.{_≡_, refl, sym, ap, subst, _∙_}
+use Prim.Native.Nat.{ℕ}
+use mathlib.Core.Path.{_≡_, refl, sym, ap, subst}
 use mathlib.Core.List.{List, [], _∷_, _++_}
-use mathlib.Core.Bool.{Bool, true, false, cond, not, _&&_, _||_}
+use mathlib.Core.Bool.{Bool, true, false, cond}
 use mathlib.Core.Logic.{_⊎_, inl, inr}
 use Rattle.std.specs.declared.option.Option.{Option}
 use Rattle.std.specs.declared.option.Option.the-variants.{Some, None}
 use native.Mathlib.Omega.{arith}
-use lib.ListN.{length, getD}
-use lib.Dec.{eqb, leb, ltb}
-use Rattle.std.proofs.shelf.Tests.{and-parts, and-from, eqb-true, eq-eqb, cases-bool, cond-true, cond-false}
+use lib.Dec.{eqb}
+use Rattle.std.proofs.shelf.Tests.{and-parts, and-from, eqb-true, eq-eqb}
 use Rattle.base.specs.declared.owner.Kind.{Kind}
 use Rattle.base.specs.declared.owner.Kind.the-variants.{File, Folder}
 use Rattle.base.specs.declared.owner.Handle.{Handle}
 use Rattle.base.specs.declared.owner.Back.{Back}
-use Rattle.layout.specs.Format.{Cell, Slot, Content, blank, cover, slotted, file-body, folder-body, ill-formed}
-use Rattle.rule.specs.Agree.{same-handle, same-back, same-bytes, names, first, some-is, given, Place, places-of, from, cells-in}
+use Rattle.layout.specs.Format.{Cell, Content, blank, cover, slotted, file-body, folder-body, ill-formed}
+use Rattle.rule.specs.Agree.{same-handle, same-back, same-bytes, names, first, some-is, given}
 use Rattle.rule.specs.Meaning.{Body}
 
 pub clash : {A : Type 0} → false ≡ true → A

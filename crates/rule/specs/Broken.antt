@@ -4,8 +4,6 @@ use mathlib.Core.Path.{_≡_}
 use mathlib.Core.List.{List, [], _∷_, _++_, map}
 use mathlib.Core.Bool.{Bool, true, false, cond, not, _&&_}
 use lib.Dec.{eqb, ltb}
-use Rattle.std.specs.declared.option.Option.{Option}
-use Rattle.std.specs.declared.option.Option.the-variants.{Some, None}
 use Rattle.std.specs.declared.result.Result.the-variants.{Ok, Err}
 use Rattle.base.specs.declared.owner.Kind.{Kind}
 use Rattle.base.specs.declared.owner.Kind.the-variants.{File, Folder}
@@ -13,8 +11,8 @@ use Rattle.base.specs.declared.owner.Handle.{Handle}
 use Rattle.base.specs.declared.refusal.Layer.the-variants.{File as FileLayer}
 use Rattle.base.specs.declared.refusal.Refusal.the-variants.{NoSuchName, NoFreeBody, NoFreeSlot, IdentitiesSpent}
 use Rattle.device.specs.declared.fault.Synced.the-variants.{Settled}
-use Rattle.layout.specs.Format.{Name, Geometry, handle, back, Content, blank, cover, slotted, file-body, folder-body, ill-formed, entry-of, cell, blank-cell}
-use Rattle.rule.specs.Agree.{Shown, View, seen, count, found, first, from, round, root, held, free-slot}
+use Rattle.layout.specs.Format.{Name, handle, back, Content, blank, cover, slotted, file-body, folder-body, ill-formed, entry-of, cell, blank-cell}
+use Rattle.rule.specs.Agree.{Shown, seen, count, found, first, from, round, root, held, free-slot}
 use Rattle.rule.specs.Check.{Answer, _>>=_, check, demand}
 use Rattle.rule.specs.Card.{Ready, Card, Plan, highest-of}
 use Rattle.rule.specs.Reading.{named, child-of}

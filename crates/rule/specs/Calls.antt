@@ -1,19 +1,22 @@
 -- What an accepted call says, as relations on the blocks shown before it.
 use Prim.Native.Nat.{ℕ, suc, _+_, _≤_, _<_}
 use mathlib.Core.Path.{_≡_}
-use mathlib.Core.List.{List, [], _∷_, _++_}
-use mathlib.Core.Bool.{Bool, true, false}
+use mathlib.Core.List.{List, [], _∷_}
+use mathlib.Core.Bool.{true}
 use mathlib.Core.Logic.{_⊎_}
 use lib.ListN.{length, set, replicate}
-use Rattle.std.specs.declared.option.Option.the-variants.{Some, None}
-use Rattle.std.specs.declared.result.Result.the-variants.{Ok}
+use Rattle.std.specs.declared.option.Option.the-variants.{Some}
+use Rattle.std.specs.declared.result.Result.the-variants.{Ok, Err}
+use Rattle.base.specs.declared.number.SlotNo.{SlotNo}
 use Rattle.base.specs.declared.owner.Kind.{Kind}
 use Rattle.base.specs.declared.owner.Kind.the-variants.{File, Folder}
 use Rattle.base.specs.declared.owner.Handle.{Handle}
+use Rattle.base.specs.declared.refusal.Refusal.the-variants.{NoFreeBody, NoFreeSlot}
 use Rattle.device.specs.declared.put.Put.{Put}
-use Rattle.device.specs.Effect.{puts}
+use Rattle.device.specs.Model.{Block}
+use Rattle.device.specs.Effect.{puts, PutAt}
 use Rattle.layout.specs.Format.{Name, Cell, Geometry, back, Slot, blank, cover, slotted, file-body, folder-body, leaf-limit, good-name, cell, blank-cell, encode}
-use Rattle.rule.specs.Agree.{Shown, View, seen, count, number, root, free-slot, free-body}
+use Rattle.rule.specs.Agree.{Shown, View, seen, count, number, root, reached, held, free-slot, free-body}
 use Rattle.rule.specs.Card.{Card, Plan}
 use Rattle.rule.specs.Changing.{store, store-slot, grown, cut-to, new-slot, keeps, last-identity, create, write, shorten, remove, format}
 use Rattle.rule.specs.Meaning.{Fits, Sound, Reached, Before, Finds, FreeSlot, FreeBody, Rooted}
@@ -152,6 +155,37 @@ pub record Formats (n N S : ℕ) (ws : List Put) : Type 0 where
 abbrev pub Format-means : Type 0
 Format-means = (n N S : ℕ) (ws : List Put) → format n N S ≡ Ok ws → Formats n N S ws
 
+-- ---- a call of which the relation holds is accepted, with that plan
+
+abbrev pub Write-accepted : Type 0
+Write-accepted = (h : Handle) (k : ℕ) (x : List ℕ) (c : Card) (shown : Shown) (g : Geometry) (p : Plan (Unit {0})) → c .ready ≡ Ok g → Writes g (seen g shown) c h k x p → write h k x c shown ≡ Ok p
+
+abbrev pub Shorten-accepted : Type 0
+Shorten-accepted = (h : Handle) (n : ℕ) (c : Card) (shown : Shown) (g : Geometry) (p : Plan (Unit {0})) → c .ready ≡ Ok g → Shortens g (seen g shown) c h n p → shorten h n c shown ≡ Ok p
+
+abbrev pub Create-accepted : Type 0
+Create-accepted = (d : Kind) (f : Handle) (n : Name) (c : Card) (shown : Shown) (g : Geometry) (p : Plan Handle) → c .ready ≡ Ok g → Creates g (seen g shown) c d f n p → create d f n c shown ≡ Ok p
+
+abbrev pub Remove-accepted : Type 0
+Remove-accepted = (f : Handle) (n : Name) (c : Card) (shown : Shown) (g : Geometry) (child : Handle) (p : Plan (Unit {0})) → c .ready ≡ Ok g → Removes g (seen g shown) c f n child p → remove f n c shown ≡ Ok p
+
+-- ---- full means full
+
+abbrev pub AllHeld : Geometry → View → Type 0
+AllHeld g v = (b : ℕ) → g .slots < b → b < g .blocks → held g v b ≡ true
+
+abbrev pub AllReached : Geometry → View → Type 0
+AllReached g v = (s : ℕ) → s < g .slots → reached g v s ≡ true
+
+abbrev pub Write-full : Type 0
+Write-full = (h : Handle) (k : ℕ) (x : List ℕ) (c : Card) (shown : Shown) (g : Geometry) (s : SlotNo) → c .ready ≡ Ok g → write h k x c shown ≡ Err (NoFreeBody s) → AllHeld g (seen g shown)
+
+abbrev pub Create-no-body : Type 0
+Create-no-body = (d : Kind) (f : Handle) (n : Name) (c : Card) (shown : Shown) (g : Geometry) (s : SlotNo) → c .ready ≡ Ok g → create d f n c shown ≡ Err (NoFreeBody s) → AllHeld g (seen g shown)
+
+abbrev pub Create-no-slot : Type 0
+Create-no-slot = (d : Kind) (f : Handle) (n : Name) (c : Card) (shown : Shown) (g : Geometry) (s : ℕ) → c .ready ≡ Ok g → create d f n c shown ≡ Err (NoFreeSlot s) → AllReached g (seen g shown)
+
 -- ---- each block goes at most once
 
 abbrev pub Apart : ℕ → List Put → Type 0
@@ -176,3 +210,7 @@ Remove-once = (g : Geometry) (shown : Shown) (c : Card) (f : Handle) (n : Name) 
 
 abbrev pub Format-once : Type 0
 Format-once = (n N S : ℕ) (ws : List Put) → format n N S ≡ Ok ws → Once ws
+
+-- so every block that goes shows what went, and the others what they did
+abbrev pub Puts-show : Type 0
+Puts-show = (f : Shown) (ws : List Put) → Once ws → ((b : ℕ) (z : Block) → PutAt b z ws → puts f ws b ≡ z) × ((b : ℕ) → Apart b ws → puts f ws b ≡ f b)

@@ -32,6 +32,19 @@ pub record Plan (A : Type 0) : Type 0 where
   pub puts : List Put
   pub card : Card
 
+-- what the call answers, the blocks that it writes and the card after it; a refused call writes nothing and changes nothing
+abbrev pub answer-of : {A : Type 0} → Answer (Plan A) → Answer A
+answer-of (Ok p) = Ok (p .answer)
+answer-of (Err r) = Err r
+
+abbrev pub puts-of : {A : Type 0} → Answer (Plan A) → List Put
+puts-of (Ok p) = p .puts
+puts-of (Err r) = []
+
+abbrev pub card-after : {A : Type 0} → Answer (Plan A) → Card → Card
+card-after (Ok p) c = p .card
+card-after (Err r) c = c
+
 abbrev pub block : ℕ → BlockNo
 block b = record { 0 = b }
 

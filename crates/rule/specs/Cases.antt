@@ -4,12 +4,11 @@ use mathlib.Core.Path.{_≡_}
 use mathlib.Core.List.{List, [], _∷_, _++_, map}
 use lib.ListN.{replicate}
 use Rattle.base.specs.declared.owner.Kind.the-variants.{File, Folder}
-use Rattle.base.specs.declared.owner.Handle.{Handle}
 use Rattle.base.specs.declared.refusal.Layer.the-variants.{Device as DeviceLayer, Card as CardLayer, File as FileLayer}
 use Rattle.device.specs.declared.fault.Synced.the-variants.{Settled, Unsure}
 use Rattle.layout.specs.Format.{handle}
 use Rattle.rule.specs.Agree.{root}
-use Rattle.rule.specs.Run.{Command, Format, Open, Survey, EndSurvey, Create, Write, Shorten, Remove, Sync, Find, Path, ListOf, StatusOf, Damage, SpaceLeft, Read, FailAfter, Cut, Look, Reply, Done, Wrote, Made, Remain, Highest, At, Bytes, Has, Free, Bad, Listing, Refused, Stopped, State, Turn, act, only, all-but, new-device, replies}
+use Rattle.rule.specs.Run.{Command, Format, Open, Survey, EndSurvey, Create, Write, Shorten, Remove, Sync, Find, Path, ListOf, StatusOf, Damage, SpaceLeft, Read, FailAfter, Cut, Look, Reply, Done, Wrote, Made, Remain, Highest, At, Bytes, Has, Free, Bad, Listing, Refused, Stopped, act, only, all-but, new-device, replies}
 
 pub record Step : Type 0 where
   pub command : Command

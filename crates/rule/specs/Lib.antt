@@ -5,6 +5,8 @@ pub mod Reading
 pub mod Changing
 pub mod Meaning
 pub mod Calls
+pub mod Readings
+pub mod Moves
 pub mod Run
 pub mod Cases
 pub mod Broken

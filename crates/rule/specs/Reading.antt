@@ -1,8 +1,8 @@
 -- What each reading call answers, on the blocks shown.
-use Prim.Native.Nat.{ℕ, zero, suc}
+use Prim.Native.Nat.{ℕ, suc}
 use mathlib.Core.List.{List, [], _∷_, _++_, map}
-use mathlib.Core.Bool.{Bool, cond, not}
-use lib.ListN.{length}
+use mathlib.Core.Bool.{cond, not}
+use lib.ListN.{length, take, drop, replicate}
 use lib.Dec.{eqb, leb, ltb}
 use Rattle.std.specs.declared.option.Option.{Option}
 use Rattle.std.specs.declared.option.Option.the-variants.{Some, None}
@@ -13,6 +13,7 @@ use Rattle.base.specs.declared.owner.Kind.the-variants.{File, Folder}
 use Rattle.base.specs.declared.owner.Handle.{Handle}
 use Rattle.base.specs.declared.refusal.Refusal.the-variants.{NoSuchHandle, WrongKind, NoSuchLeaf, LeafNotGood, NoSuchName, BadName, BadLength}
 use Rattle.base.specs.declared.refusal.PathRefusal.{PathRefusal}
+use Rattle.base.specs.Refusals.{number-of}
 use Rattle.layout.specs.Format.{Name, Geometry, handle, Slot, Content, blank, cover, slotted, file-body, folder-body, ill-formed, Entry, entry, no-entry, good-name, entry-of}
 use Rattle.rule.specs.Agree.{Shown, View, seen, same-kind, slot-at, count, number, good, places, sound, found, those, from, root, reached, slots-of, free-slots, free-bodies}
 use Rattle.rule.specs.Check.{Answer, _>>=_, check, demand}
@@ -94,7 +95,13 @@ path p ready shown = do
   g ← at-component 0 ready
   walk g (seen g shown) 0 root (components p)
 
--- ---- list and damage: the lines in order, of which the caller gets as many as there is room for
+-- ---- list and damage
+
+-- the caller's lines after a call: the first of what was found, as many as there is room for, and the lines beyond as they were.
+-- Power gone leaves every line zero; another refusal leaves them as they were
+abbrev pub filled : {L : Type 0} → L → List L → Answer (List L) → List L
+filled zero-line lines (Ok items) = take (length lines) items ++ drop (length items) lines
+filled zero-line lines (Err r) = cond (eqb (number-of r) 1) (replicate (length lines) zero-line) lines
 
 pub record EntryLine : Type 0 where
   pub name : Name
@@ -169,3 +176,8 @@ read h k room ready shown = do
   _ ← check (ltb k (count r)) (NoSuchLeaf (record { 0 = k }))
   _ ← check (good (seen g shown) h r k) (LeafNotGood (block (number r k)))
   Ok (bytes-in (seen g shown (number r k)))
+
+-- the caller's buffer after a read: only its front is written, and a refusal leaves it as it was
+abbrev pub read-into : List ℕ → Answer (List ℕ) → List ℕ
+read-into buffer (Ok x) = x ++ drop (length x) buffer
+read-into buffer (Err r) = buffer

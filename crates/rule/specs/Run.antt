@@ -2,7 +2,7 @@
 -- content that may stand, and may be told after how many writes its power goes.
 use Prim.Native.Nat.{ℕ, zero, suc, _-_}
 use mathlib.Core.List.{List, [], _∷_}
-use mathlib.Core.Bool.{Bool, true, false, cond, not, _||_}
+use mathlib.Core.Bool.{Bool, true, false, cond, _||_}
 use lib.ListN.{length, getD, take, replicate}
 use lib.Dec.{eqb, leb}
 use Rattle.std.specs.declared.option.Option.{Option}
@@ -26,7 +26,7 @@ use Rattle.rule.specs.Agree.{Shown}
 use Rattle.rule.specs.Check.{Answer}
 use Rattle.rule.specs.Card.{Ready, Card, Plan, block, lost, Opened, opened, Surveying, survey-step, surveyed}
 use Rattle.rule.specs.Reading.{find, path, EntryLine, list, DamageLine, damage, status, space, read}
-use Rattle.rule.specs.Changing.{create, write, shorten, remove, format, synced, sync}
+use Rattle.rule.specs.Changing.{create, write, shorten, remove, format, sync}
 
 -- what a block shows, and what may stand there, newest first
 pub record Stand : Type 0 where

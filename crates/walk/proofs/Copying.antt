@@ -41,8 +41,9 @@ number-past s k h = getD-past (numbers-of (s .count) (s .numbers)) k 0 (omega (a
 -- nor past the bytes
 pub number-beyond : (s : SlotCopy) (k : ℕ) → length (s .numbers) ≤ 2 * k → number (copied s) k ≡ 0
 number-beyond s k h = elim (cases-lt k (s .count)) [
-    inl l ↦ number-at (s .count) k (s .numbers) l ∙ rw (getD-past (s .numbers) (2 * k) 0 h, getD-past (s .numbers) (2 * k + 1) 0 (omega arith))
-  | inr l ↦ number-past s k l ]
+  | inl l ↦ number-at (s .count) k (s .numbers) l ∙ rw (getD-past (s .numbers) (2 * k) 0 h, getD-past (s .numbers) (2 * k + 1) 0 (omega arith))
+  | inr l ↦ number-past s k l
+]
 
 pub number-none : (s : SlotCopy) (k : ℕ) → length (s .numbers) ≡ 128 → (s .count ≤ k) ⊎ (64 ≤ k) → 0 ≡ number (copied s) k
 number-none s k h (inl l) = sym (number-past s k l)
@@ -92,11 +93,12 @@ module _ (l : Back) where
 -- a number that is a body's is below the count
 pub body-below : (g : Geometry) (r : Slot) (k : ℕ) → body-number g (number r k) ≡ true → k < count r
 body-below g r k h = elim (cases-lt k (count r)) [
-    inl l ↦ l
+  | inl l ↦ l
   | inr l ↦
-    let e = getD-past (r .numbers) k 0 l in
-    let low = ltb-true (g .slots) (number r k) (and-parts (ltb (g .slots) (number r k)) (ltb (number r k) (g .blocks)) h .0) in
-    absurd (omega (arith, e, low)) ]
+      let e = getD-past (r .numbers) k 0 l in
+      let low = ltb-true (g .slots) (number r k) (and-parts (ltb (g .slots) (number r k)) (ltb (number r k) (g .blocks)) h .0) in
+      absurd (omega (arith, e, low))
+]
 
 module _ (g : Geometry) (shown : Shown) (h : Handle) (r : Slot) (k : ℕ) where
   pub leaf-none : (b : ℕ) → b ≡ number r k → body-number g b ≡ false → LeafIs (seen g shown) h r k None

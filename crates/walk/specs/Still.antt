@@ -10,6 +10,12 @@ use Rattle.layout.specs.declared.geometry.Geometry.{Geometry as CardGeometry}
 use Rattle.rule.specs.Agree.{View, seen}
 use Rattle.std.specs.Results.{Cases}
 use Rattle.std.specs.declared.result.Result.{Result}
+use Rattle.std.specs.declared.result.Result.the-variants.{Err}
+use Rattle.base.specs.declared.refusal.Refusal.{Refusal}
+use Rattle.base.specs.declared.refusal.PathRefusal.{PathRefusal}
+use Rattle.device.specs.Answers.{refusal-of}
+use Rattle.rule.specs.Check.{Answer}
+use mathlib.Core.Logic.{_⊎_}
 
 -- what the blocks of a card hold, as the device shows them
 abbrev pub shows : CardGeometry → Model → View
@@ -28,3 +34,18 @@ Failed g m n (NoSuchBlock b) = Still m n × (m .count < g .blocks)
 -- only reads were made, and P holds of the answer
 abbrev pub Says : {A : Type 0} → CardGeometry → Result A Fault → (A → Type 0) → Model → Model → Type 0
 Says g r P m n = Cases r (λ a. Still m n × P a) (Failed g m n)
+
+-- a call is refused as the rule says, or because a read was refused
+abbrev pub Refused : {B : Type 0} → CardGeometry → Answer B → Model → Model → Refusal → Type 0
+Refused g x m n e = (Still m n × (x ≡ Err e)) ⊎ ((f : Fault) × (e ≡ refusal-of f) × Failed g m n f)
+
+-- only reads were made: P holds of the answer, or the call is refused as the rule's answer x is
+abbrev pub Gives : {A B : Type 0} → CardGeometry → Result A Refusal → Answer B → (A → Type 0) → Model → Model → Type 0
+Gives g r x P m n = Cases r (λ a. Still m n × P a) (Refused g x m n)
+
+-- the same of a path, whose refusal tells the component too
+abbrev pub PathRefused : {B : Type 0} → CardGeometry → Result B PathRefusal → Model → Model → PathRefusal → Type 0
+PathRefused g x m n e = (Still m n × (x ≡ Err e)) ⊎ ((f : Fault) × (e .lower ≡ refusal-of f) × Failed g m n f)
+
+abbrev pub PathGives : {A B : Type 0} → CardGeometry → Result A PathRefusal → Result B PathRefusal → (A → Type 0) → Model → Model → Type 0
+PathGives g r x P m n = Cases r (λ a. Still m n × P a) (PathRefused g x m n)

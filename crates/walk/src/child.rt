@@ -6,9 +6,9 @@ ghost use Rattle.layout.specs.Sizes.{sizes};
 ghost use Rattle.rule.specs.Agree.{same-handle};
 ghost use Rattle.walk.specs.Still.{Says, shows};
 ghost use Rattle.walk.specs.Copies.{parent-line, ChildIs};
-use base::owner::Handle;
 use crate::slot::SlotCopy;
 use crate::slot::read_slot;
+use base::owner::Handle;
 use device::Device;
 use device::fault::Fault;
 use layout::geometry::Geometry;
@@ -34,7 +34,12 @@ fn is_child(slot: &SlotCopy, folder: &Handle, child: &Handle) -> bool
 }
 
 // The slot of the child that an entry of this folder leads to, if the entry is sound. One read.
-pub fn read_child<D: Device>(device: &mut D, g: &Geometry, folder: &Handle, child: &Handle) -> Result<Option<SlotCopy>, Fault>
+pub fn read_child<D: Device>(
+    device: &mut D,
+    g: &Geometry,
+    folder: &Handle,
+    child: &Handle,
+) -> Result<Option<SlotCopy>, Fault>
     ensures { λ r. ⌜ Says (now (g .entry)) r (ChildIs (sizes (now (g .entry))) (shows (now (g .entry)) (model (now (device .entry)))) (now (folder .entry)) (now (child .entry))) (model (now (device .entry))) (model (now (device .exit))) ⌝ }
 {
     let slot = read_slot(device, g, child.slot)?;

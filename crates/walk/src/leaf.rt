@@ -9,12 +9,12 @@ ghost use Rattle.layout.specs.Sizes.{sizes};
 ghost use Rattle.rule.specs.Agree.{names, same-back};
 ghost use Rattle.walk.specs.Still.{Says, shows};
 ghost use Rattle.walk.specs.Copies.{copied, front, Holds, LeafIs};
+use crate::slot::SlotCopy;
 use base::number::BlockNo;
 use base::number::LeafNo;
 use base::owner::Back;
 use base::owner::Handle;
 use base::owner::Kind;
-use crate::slot::SlotCopy;
 use device::Device;
 use device::fault::Fault;
 use layout::block::Block;
@@ -58,7 +58,13 @@ fn owned(body: &Body, line: &Back) -> Option<LeafCopy>
 }
 
 // A copy of the body in this block, if it is of the kind and names this owner.
-fn leaf_in(g: &Geometry, at: BlockNo, kind: Kind, line: &Back, block: &[u8; 512]) -> Option<LeafCopy>
+fn leaf_in(
+    g: &Geometry,
+    at: BlockNo,
+    kind: Kind,
+    line: &Back,
+    block: &[u8; 512],
+) -> Option<LeafCopy>
     ensures { λ r. ⌜ BySome r (names kind (now (line .entry)) (parsed (sizes (now (g .entry))) (at .0) (now (block .entry))) ≡ false) (λ l. (names kind (now (line .entry)) (parsed (sizes (now (g .entry))) (at .0) (now (block .entry))) ≡ true) × Holds l (parsed (sizes (now (g .entry))) (at .0) (now (block .entry)))) ⌝ }
 {
     match (parse(g, at, block), kind) {
@@ -69,7 +75,13 @@ fn leaf_in(g: &Geometry, at: BlockNo, kind: Kind, line: &Back, block: &[u8; 512]
 }
 
 // A leaf of this owner, whose slot is given, if the leaf is good. One read, or none where the number is no body's.
-pub fn read_leaf<D: Device>(device: &mut D, g: &Geometry, owner: Handle, slot: &SlotCopy, leaf: LeafNo) -> Result<Option<LeafCopy>, Fault>
+pub fn read_leaf<D: Device>(
+    device: &mut D,
+    g: &Geometry,
+    owner: Handle,
+    slot: &SlotCopy,
+    leaf: LeafNo,
+) -> Result<Option<LeafCopy>, Fault>
     ensures { λ r. ⌜ Says (now (g .entry)) r (LeafIs (shows (now (g .entry)) (model (now (device .entry)))) owner (copied (now (slot .entry))) (leaf .0)) (model (now (device .entry))) (model (now (device .exit))) ⌝ }
 {
     let at = slot.number(leaf);

@@ -60,7 +60,11 @@ fn slot_in(g: &Geometry, at: BlockNo, block: &[u8; 512]) -> Option<SlotCopy>
 }
 
 // The slot, if it is well formed. One read, or none where the card has no such slot.
-pub fn read_slot<D: Device>(device: &mut D, g: &Geometry, slot: SlotNo) -> Result<Option<SlotCopy>, Fault>
+pub fn read_slot<D: Device>(
+    device: &mut D,
+    g: &Geometry,
+    slot: SlotNo,
+) -> Result<Option<SlotCopy>, Fault>
     ensures { λ r. ⌜ Says (now (g .entry)) r (SlotIs (sizes (now (g .entry))) (shows (now (g .entry)) (model (now (device .entry)))) (slot .0)) (model (now (device .entry))) (model (now (device .exit))) ⌝ }
 {
     let Some(at) = g.slot_block(slot) else {

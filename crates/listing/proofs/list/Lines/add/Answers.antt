@@ -14,20 +14,20 @@ returns g c =
     let was : S = c .args .self .now in
     let is : S = c .if-self .self in
     let count : c .saturating-add-self .result ≡ counted (was .count) =
-        elim (c .if-self .came) [
-          | then-self w ↦ c .saturating-add-self .ensures ∙ ap (λ (s : S). counted (s .count)) (w .self-is)
-          | else-self w ↦ c .saturating-add-self .ensures ∙ ap (λ (s : S). counted (s .count)) (w .self-is)
-        ] in
+    elim (c .if-self .came) [
+      | then-self w ↦ c .saturating-add-self .ensures ∙ ap (λ (s : S). counted (s .count)) (w .self-is)
+      | else-self w ↦ c .saturating-add-self .ensures ∙ ap (λ (s : S). counted (s .count)) (w .self-is)
+    ] in
     let put : is .lines .now ≡ set (was .lines .now) (was .count) (c .args .line) =
-        elim (c .if-self .came) [
-          | then-self w ↦ ap (λ (s : S). s .lines .now) (w .self-is)
-          | else-self w ↦ ap (λ (s : S). s .lines .now) (w .self-is) ∙ sym (set-past _ _ (c .args .line) (w .if-self .left))
-        ] in
+    elim (c .if-self .came) [
+      | then-self w ↦ ap (λ (s : S). s .lines .now) (w .self-is)
+      | else-self w ↦ ap (λ (s : S). s .lines .now) (w .self-is) ∙ sym (set-past _ _ (c .args .line) (w .if-self .left))
+    ] in
     let same : name (is .lines) ≡ name (was .lines) =
-        elim (c .if-self .came) [
-          | then-self w ↦ ap (λ (s : S). name (s .lines)) (w .self-is)
-          | else-self w ↦ ap (λ (s : S). name (s .lines)) (w .self-is)
-        ] in
+    elim (c .if-self .came) [
+      | then-self w ↦ ap (λ (s : S). name (s .lines)) (w .self-is)
+      | else-self w ↦ ap (λ (s : S). name (s .lines)) (w .self-is)
+    ] in
     record {
       count = count;
       put = put;
