@@ -24,7 +24,8 @@ use Rattle.listing.specs.Lines as lines
 use Rattle.listing.specs.declared.line.EntryLine.{EntryLine as EntryRow}
 use Rattle.walk.specs.Copies.{child-slot, Holds}
 use Rattle.walk.specs.declared.leaf.LeafCopy.{LeafCopy}
-use Rattle.tours.specs.Lists.{entry-row, entry-lines, entry-rows, cell-rows, leaf-places}
+use Rattle.walk.specs.Finding.{leaf-places}
+use Rattle.tours.specs.Lists.{entry-row, entry-lines, entry-rows, cell-rows}
 
 pub those-append : {A : Type 0} (p : A → Bool) (xs ys : List A) → those p (xs ++ ys) ≡ those p xs ++ those p ys
 those-append p [] ys = refl

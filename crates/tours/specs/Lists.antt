@@ -1,15 +1,14 @@
 -- Lists of a folder's entries and of damage, as the caller's lines have them.
 use Prim.Native.Nat.{ℕ, _+_, _^_, _≤_, _<_}
-use mathlib.Core.Bool.{Bool, cond}
-use mathlib.Core.List.{List, [], _∷_, _++_, map}
+use mathlib.Core.List.{List, _++_, map}
 use lib.ListN.{length}
 use Rattle.std.specs.declared.result.Result.{Result}
 use Rattle.base.specs.declared.owner.Handle.{Handle}
 use Rattle.device.specs.Model.{Model}
 use Rattle.device.specs.declared.fault.Fault.{Fault}
-use Rattle.layout.specs.Format.{Geometry, Cell, Slot, Entry, entry-of}
+use Rattle.layout.specs.Format.{Geometry, Cell, entry-of}
 use Rattle.layout.specs.declared.geometry.Geometry.{Geometry as CardGeometry}
-use Rattle.rule.specs.Agree.{View, Place, those, agrees, sound, good, number, cells-in, places-of, places}
+use Rattle.rule.specs.Agree.{View, Place, those, agrees, sound}
 use Rattle.rule.specs.Reading.{EntryLine, entry-line}
 use Rattle.listing.specs.Lines.{Sofar}
 use Rattle.listing.specs.Lines as lines
@@ -39,7 +38,3 @@ entry-rows g v f qs = map entry-row (entry-lines g v f qs)
 -- the same among some cells
 abbrev pub cell-rows : Geometry → View → Handle → List Cell → List EntryRow
 cell-rows g v f es = map (λ e. entry-row (entry-line (entry-of g e))) (those (λ e. agrees g v f (entry-of g e)) es)
-
--- the places of leaf k, if it is good
-abbrev pub leaf-places : View → Handle → Slot → ℕ → List Place
-leaf-places v f r k = cond (good v f r k) (places-of k 0 (cells-in (v (number r k)))) []

@@ -12,7 +12,8 @@ use Rattle.walk.specs.Still.{shows}
 use Rattle.walk.proofs.Stills.{still, still-then}
 use Rattle.listing.specs.Lines.{Sofar}
 use Rattle.listing.proofs.Listing.{none-yet}
-use Rattle.tours.specs.Lists.{entry-rows, leaf-places}
+use Rattle.walk.specs.Finding.{leaf-places}
+use Rattle.tours.specs.Lists.{entry-rows}
 use Rattle.tours.proofs.Adding.{adds-is, adds-none, adds-more, adds-all}
 use Rattle.tours.proofs.Rows.{leaves-more, file-none}
 use Rattle.tours.proofs.list.list_entries.Needs as need

@@ -7,7 +7,8 @@ use Rattle.layout.specs.Sizes.{sizes}
 use Rattle.rule.specs.Agree.{Shown, seen}
 use Rattle.walk.specs.Copies.{copied, LeafIs}
 use Rattle.walk.proofs.Stills.{says-then}
-use Rattle.tours.specs.Lists.{Adds, cell-rows, entry-rows, leaf-places}
+use Rattle.walk.specs.Finding.{leaf-places}
+use Rattle.tours.specs.Lists.{Adds, cell-rows, entry-rows}
 use Rattle.tours.proofs.Adding.{adds-is}
 use Rattle.tours.proofs.Rows.{leaf-good}
 use Rattle.tours.proofs.list.list_leaf.Needs as need
