@@ -219,7 +219,7 @@ module _ (g : Geometry) (v : View) where
     pub name : Name
     pub sound : Sound g v (slot .parent) leaf place name (handle s (slot .identity))
 
-  parent-parts : (s t : ℕ) → parent-of g v s ≡ Some t → Parent s t
+  pub parent-parts : (s t : ℕ) → parent-of g v s ≡ Some t → Parent s t
   parent-parts s t e = outer (given-some (slot-at g v s) (λ r. given (slot-at g v (r .parent .slot .0)) (λ f. cond (eqb (f .identity) (r .parent .identity .0) && lists g v (r .parent) f (handle s (r .identity))) (Some (r .parent .slot .0)) None)) t e)
     where
       outer : (r : Slot) × (slot-at g v s ≡ Some r) × (given (slot-at g v (r .parent .slot .0)) (λ f. cond (eqb (f .identity) (r .parent .identity .0) && lists g v (r .parent) f (handle s (r .identity))) (Some (r .parent .slot .0)) None) ≡ Some t) → Parent s t
@@ -260,7 +260,7 @@ module _ (g : Geometry) (v : View) where
       go None e = absurd (none-sound g v f r fit (leads-to c) e k p n c s (handle-same c c refl))
       go (Some q) e = refl
 
-  parent-from : (f c : Handle) (k p : ℕ) (n : Name) → Sound g v f k p n c → parent-of g v (c .slot .0) ≡ Some (f .slot .0)
+  pub parent-from : (f c : Handle) (k p : ℕ) (n : Name) → Sound g v f k p n c → parent-of g v (c .slot .0) ≡ Some (f .slot .0)
   parent-from f c k p n s =
       ap (λ (o : Option Slot). given o (λ r. given (slot-at g v (r .parent .slot .0)) (λ x. cond (eqb (x .identity) (r .parent .identity .0) && lists g v (r .parent) x (handle (c .slot .0) (r .identity))) (Some (r .parent .slot .0)) None))) (fits-at g v c (s .child) (s .child-fits))
       ∙ ap (λ (h : Handle). given (slot-at g v (h .slot .0)) (λ x. cond (eqb (x .identity) (h .identity .0) && lists g v h x (handle (c .slot .0) (s .child .identity))) (Some (h .slot .0)) None)) (s .parent)
@@ -268,7 +268,7 @@ module _ (g : Geometry) (v : View) where
       ∙ ap (λ (b : Bool). cond b (Some (f .slot .0)) None) (and-from (eqb (s .slot .identity) (f .identity .0)) (lists g v f (s .slot) (handle (c .slot .0) (s .child .identity))) (eq-eqb (s .slot .identity) (f .identity .0) (s .fits .same))
       (ap (λ (i : ℕ). lists g v f (s .slot) (handle (c .slot .0) i)) (s .child-fits .same) ∙ listed-by f (s .slot) k p n c (s .fits) s))
 
-  up-below : (s t : ℕ) → parent-of g v s ≡ Some t → t < g .slots
+  pub up-below : (s t : ℕ) → parent-of g v s ≡ Some t → t < g .slots
   up-below s t e = let w = parent-parts s t e in subst (λ (x : ℕ). x < g .slots) (w .is) (w .fits .inside)
 
   reached-climbs : (h : Handle) → Reached g v h → (m : ℕ) × (climbs (parent-of g v) m (h .slot .0) ≡ true)

@@ -1,0 +1,5 @@
+pub mod Adding
+pub mod Rows
+pub mod Damages
+pub mod Ticks
+pub mod Marking
