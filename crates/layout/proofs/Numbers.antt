@@ -82,3 +82,9 @@ pub slot-whole : (g : Geometry) (d e : Kind) (h : SlotHead) (z : List ℕ) → l
 slot-whole g d e h z len fits bodies same =
     let few : h .count ≤ 64 = count-few g h fits in
     rw (same, part-numbers (h .count) z (omega arith), fits, bodies)
+
+-- each number of a row of bodies is a body's
+pub body-at : (g : Geometry) (ns : List ℕ) (k : ℕ) → all-bodies g ns ≡ true → k < length ns → body-number g (getD ns k 0) ≡ true
+body-at g [] k h lt = absurd (omega arith)
+body-at g (n ∷ ns) zero h lt = and-parts (body-number g n) (all-bodies g ns) h .0
+body-at g (n ∷ ns) (suc k) h lt = body-at g ns k (and-parts (body-number g n) (all-bodies g ns) h .1) (omega arith)
