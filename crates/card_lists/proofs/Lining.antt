@@ -61,7 +61,7 @@ unfolding reading fits kind-is
 reading-spared g v d h =
     bind-spared (fits g v h) (kind-is d h)
     (bind-spared (demand (slot-at g v (h .slot .0)) (NoSuchHandle (h .slot))) _ (demand-spared (slot-at g v (h .slot .0)) (NoSuchHandle (h .slot)) refl)
-      (λ r. bind-spared (check (eqb (r .identity) (h .identity .0)) (NoSuchHandle (h .slot))) _ (check-spared (eqb (r .identity) (h .identity .0)) (NoSuchHandle (h .slot)) refl) (λ a e q. no-answer q)))
+    (λ r. bind-spared (check (eqb (r .identity) (h .identity .0)) (NoSuchHandle (h .slot))) _ (check-spared (eqb (r .identity) (h .identity .0)) (NoSuchHandle (h .slot)) refl) (λ a e q. no-answer q)))
     (λ r. bind-spared (check (same-kind (r .kind) d) (WrongKind (h .slot))) _ (check-spared (same-kind (r .kind) d) (WrongKind (h .slot)) refl) (λ a e q. no-answer q))
 
 module _ (g : Geometry) (shown : Shown) (f : Handle) where

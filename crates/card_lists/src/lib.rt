@@ -38,7 +38,12 @@ fn zero_if_gone<L: Copy>(answer: &Result<usize, Refusal>, lines: &mut [L], zero:
     }
 }
 
-fn fill_entries<D: Device>(device: &mut D, g: &Geometry, folder: Handle, lines: &mut [EntryLine]) -> Result<usize, Refusal>
+fn fill_entries<D: Device>(
+    device: &mut D,
+    g: &Geometry,
+    folder: Handle,
+    lines: &mut [EntryLine],
+) -> Result<usize, Refusal>
     ensures { λ r. ⌜ Fills entry-row (now (g .entry)) (list folder (Ok (sizes (now (g .entry)))) (model (now (device .entry)) .shown)) r (model (now (device .entry))) (model (now (device .exit))) (now (lines .entry)) (now (lines .exit)) ⌝ }
 {
     let slot = read_kind(device, g, Kind::Folder, &folder)?;
@@ -47,7 +52,12 @@ fn fill_entries<D: Device>(device: &mut D, g: &Geometry, folder: Handle, lines: 
 }
 
 // Fills the lines with the sound entries of a folder and answers their whole number.
-pub fn list_folder<D: Device>(device: &mut D, g: &Geometry, folder: Handle, lines: &mut [EntryLine]) -> Result<usize, Refusal>
+pub fn list_folder<D: Device>(
+    device: &mut D,
+    g: &Geometry,
+    folder: Handle,
+    lines: &mut [EntryLine],
+) -> Result<usize, Refusal>
     ensures { λ r. ⌜ Lined entry-row zero-entry (now (g .entry)) (list folder (Ok (sizes (now (g .entry)))) (model (now (device .entry)) .shown)) r (model (now (device .entry))) (model (now (device .exit))) (now (lines .entry)) (now (lines .exit)) ⌝ }
 {
     let answer = fill_entries(device, g, folder, lines);
@@ -55,7 +65,11 @@ pub fn list_folder<D: Device>(device: &mut D, g: &Geometry, folder: Handle, line
     answer
 }
 
-fn fill_damage<D: Device>(device: &mut D, g: &Geometry, lines: &mut [DamageLine]) -> Result<usize, Refusal>
+fn fill_damage<D: Device>(
+    device: &mut D,
+    g: &Geometry,
+    lines: &mut [DamageLine],
+) -> Result<usize, Refusal>
     ensures { λ r. ⌜ Fills damage-row (now (g .entry)) (damage (Ok (sizes (now (g .entry)))) (model (now (device .entry)) .shown)) r (model (now (device .entry))) (model (now (device .exit))) (now (lines .entry)) (now (lines .exit)) ⌝ }
 {
     let marks = mark_reached(device, g)?;
@@ -64,7 +78,11 @@ fn fill_damage<D: Device>(device: &mut D, g: &Geometry, lines: &mut [DamageLine]
 }
 
 // Fills the lines with the leaves of reached slots that are not good and answers their whole number.
-pub fn list_damage<D: Device>(device: &mut D, g: &Geometry, lines: &mut [DamageLine]) -> Result<usize, Refusal>
+pub fn list_damage<D: Device>(
+    device: &mut D,
+    g: &Geometry,
+    lines: &mut [DamageLine],
+) -> Result<usize, Refusal>
     ensures { λ r. ⌜ Lined damage-row zero-damage (now (g .entry)) (damage (Ok (sizes (now (g .entry)))) (model (now (device .entry)) .shown)) r (model (now (device .entry))) (model (now (device .exit))) (now (lines .entry)) (now (lines .exit)) ⌝ }
 {
     let answer = fill_damage(device, g, lines);
