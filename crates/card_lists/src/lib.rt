@@ -7,6 +7,7 @@ ghost use Rattle.layout.specs.Sizes.{sizes};
 ghost use Rattle.rule.specs.Reading.{list, damage};
 ghost use Rattle.tours.specs.Lists.{entry-row};
 ghost use Rattle.tours.specs.Damage.{damage-row};
+ghost use Rattle.card_lists.specs.Ready.{Fitting, kept-after, Listing};
 ghost use Rattle.card_lists.specs.Lined.{gone, Fills, Lined, zero-entry, zero-damage};
 use base::owner::Handle;
 use base::owner::Kind;
@@ -88,4 +89,63 @@ pub fn list_damage<D: Device>(
     let answer = fill_damage(device, g, lines);
     zero_if_gone(&answer, lines, NO_DAMAGE);
     answer
+}
+
+// Keeps the refusal of an answer that is power gone.
+fn keep_gone(ready: &mut Result<Geometry, Refusal>, answer: &Result<usize, Refusal>)
+    ensures { λ _. ⌜ now (ready .exit) ≡ kept-after (now (answer .entry)) (now (ready .entry)) ⌝ }
+{
+    match answer {
+        Ok(_) => {}
+        Err(e) => {
+            if e.number() == 1 {
+                *ready = Err(*e);
+            }
+        }
+    }
+}
+
+// The list of a card: `ready` has its geometry, or the refusal that answers each call. Power gone is kept there.
+pub fn list_on<D: Device>(
+    device: &mut D,
+    ready: &mut Result<Geometry, Refusal>,
+    folder: Handle,
+    lines: &mut [EntryLine],
+) -> Result<usize, Refusal>
+    ensures { λ r. ⌜ (Fitting (now (ready .entry)) (model (now (device .entry))) → Listing entry-row zero-entry (list folder) (now (ready .entry)) (model (now (device .entry))) r (now (ready .exit)) (model (now (device .exit))) (now (lines .entry)) (now (lines .exit))) ⌝ }
+{
+    match *ready {
+        Ok(g) => {
+            let answer = list_folder(device, &g, folder, lines);
+            keep_gone(ready, &answer);
+            answer
+        }
+        Err(e) => {
+            let answer = Err(e);
+            zero_if_gone(&answer, lines, NO_ENTRY);
+            answer
+        }
+    }
+}
+
+// Its damage.
+pub fn damage_on<D: Device>(
+    device: &mut D,
+    ready: &mut Result<Geometry, Refusal>,
+    lines: &mut [DamageLine],
+) -> Result<usize, Refusal>
+    ensures { λ r. ⌜ (Fitting (now (ready .entry)) (model (now (device .entry))) → Listing damage-row zero-damage damage (now (ready .entry)) (model (now (device .entry))) r (now (ready .exit)) (model (now (device .exit))) (now (lines .entry)) (now (lines .exit))) ⌝ }
+{
+    match *ready {
+        Ok(g) => {
+            let answer = list_damage(device, &g, lines);
+            keep_gone(ready, &answer);
+            answer
+        }
+        Err(e) => {
+            let answer = Err(e);
+            zero_if_gone(&answer, lines, NO_DAMAGE);
+            answer
+        }
+    }
 }
