@@ -25,17 +25,21 @@ use tours::list::list_entries;
 use tours::marks::mark_reached;
 use walk::handle::read_kind;
 
+fn is_gone(answer: &Result<usize, Refusal>) -> bool
+    ensures { λ r. ⌜ r ≡ gone (now (answer .entry)) ⌝ }
+{
+    match answer {
+        Ok(_) => false,
+        Err(e) => e.number() == 1,
+    }
+}
+
 // Makes every line `zero`, if the answer is power gone.
 fn zero_if_gone<L: Copy>(answer: &Result<usize, Refusal>, lines: &mut [L], zero: L)
     ensures { λ _. ⌜ now (lines .exit) ≡ cond (gone (now (answer .entry))) (replicate (length (now (lines .entry))) zero) (now (lines .entry)) ⌝ }
 {
-    match answer {
-        Ok(_) => {}
-        Err(e) => {
-            if e.number() == 1 {
-                fill_lines(lines, zero);
-            }
-        }
+    if is_gone(answer) {
+        fill_lines(lines, zero);
     }
 }
 
