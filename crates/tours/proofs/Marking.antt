@@ -165,9 +165,6 @@ module _ (g : Geometry) (v : View) (f : Handle) where
     leaf-done k es ms q len done fine =
         subst (λ (x : List Cell). CellsDone g v f x (length x) ms) q (subst (λ (n : ℕ). CellsDone g v f es n ms) (sym len) done)
 
-    pub leaf-bad : (k : ℕ) (ms : List Bool) → good v f r k ≡ false → LeafDone g v f r k ms
-    leaf-bad k ms bad fine = clash (sym bad ∙ fine)
-
 -- ---- the folder in a slot
 
 module _ (g : Geometry) (v : View) (s : ℕ) where
