@@ -23,16 +23,20 @@ use Rattle.device.specs.Answers.{refusal-of, power-gone}
 use Rattle.device.specs.declared.fault.Fault.{Fault}
 use Rattle.device.specs.declared.fault.Fault.the-variants.{PowerGone, NoSuchBlock}
 use Rattle.layout.specs.Format.{Geometry, Slot}
+use Rattle.layout.specs.Sizes.{sizes}
 use Rattle.layout.specs.declared.geometry.Geometry.{Geometry as CardGeometry}
 use Rattle.rule.specs.Agree.{Shown, View, seen, those, places, reached, slots-of, slot-at, same-kind}
+use Rattle.rule.specs.Card.{Ready}
 use Rattle.rule.specs.Check.{Answer, _>>=_, check, demand}
 use Rattle.rule.specs.Reading.{EntryLine, DamageLine, fits, kind-is, reading, list, damage, bad-leaves}
 use Rattle.rule.proofs.Steps.{clash}
-use Rattle.walk.specs.Still.{Refused}
+use Rattle.walk.specs.Still.{Refused, Failed}
+use Rattle.walk.proofs.Stills.{still}
 use Rattle.tours.specs.Lists.{entry-lines}
 use Rattle.tours.specs.Damage.{damage-row, damage-rows}
 use Rattle.tours.specs.Marks.{MarksReached}
 use Rattle.card_lists.specs.Lined.{gone, Filled, Left, Met, Fills, Lined}
+use Rattle.card_lists.specs.Ready.{Kept, ready-view, Fitting, kept-after, Listing}
 
 no-answer : {A B E : Type 0} {a : A} {e : E} → Ok a ≡ Err e → B
 no-answer q = let z : _≡_ {A = ℕ} 0 1 = cc in absurd (omega arith)
@@ -61,7 +65,7 @@ unfolding reading fits kind-is
 reading-spared g v d h =
     bind-spared (fits g v h) (kind-is d h)
     (bind-spared (demand (slot-at g v (h .slot .0)) (NoSuchHandle (h .slot))) _ (demand-spared (slot-at g v (h .slot .0)) (NoSuchHandle (h .slot)) refl)
-      (λ r. bind-spared (check (eqb (r .identity) (h .identity .0)) (NoSuchHandle (h .slot))) _ (check-spared (eqb (r .identity) (h .identity .0)) (NoSuchHandle (h .slot)) refl) (λ a e q. no-answer q)))
+    (λ r. bind-spared (check (eqb (r .identity) (h .identity .0)) (NoSuchHandle (h .slot))) _ (check-spared (eqb (r .identity) (h .identity .0)) (NoSuchHandle (h .slot)) refl) (λ a e q. no-answer q)))
     (λ r. bind-spared (check (same-kind (r .kind) d) (WrongKind (h .slot))) _ (check-spared (same-kind (r .kind) d) (WrongKind (h .slot)) refl) (λ a e q. no-answer q))
 
 module _ (g : Geometry) (shown : Shown) (f : Handle) where
@@ -120,3 +124,41 @@ module _ {A L : Type 0} (row : A → L) (g : CardGeometry) (x : Answer (List A))
       one : (f : Fault) → power-gone f ≡ true → eqb (number-of (refusal-of f)) 1 ≡ true
       one (PowerGone b) p = refl
       one (NoSuchBlock b) p = clash p
+
+-- ---- on a card that may not be good
+
+pub list-unready : (f : Handle) (e : Refusal) (shown : Shown) → list f (Err e) shown ≡ Err e
+unfolding list _>>=_
+list-unready f e shown = refl
+
+pub damage-unready : (e : Refusal) (shown : Shown) → damage (Err e) shown ≡ Err e
+unfolding damage _>>=_
+damage-unready e shown = refl
+
+module _ {A L : Type 0} (row : A → L) (zero : L) (rule : Ready → Shown → Answer (List A)) (c : Kept) (m : Model) (before after : List L) where
+  -- the refusal that the card keeps
+  pub unready : (e : Refusal) → c ≡ Err e → rule (Err e) (m .shown) ≡ Err e → after ≡ cond (eqb (number-of e) 1) (replicate (length before) zero) before → Listing row zero rule c m (Err e) c m before after
+  unready e is u q = record { answer = Err e; reads = inl (still m, sym (ap (λ (x : Kept). rule (ready-view x) (m .shown)) is ∙ u), refl); lines = (refl, q) }
+
+  module _ (g : CardGeometry) (good : c ≡ Ok g) (fit : Fitting c m) (spared : (e : Refusal) → rule (Ok (sizes g)) (m .shown) ≡ Err e → Spared e) where
+    same : rule (ready-view c) (m .shown) ≡ rule (Ok (sizes g)) (m .shown)
+    same = ap (λ (x : Kept). rule (ready-view x) (m .shown)) good
+
+    pub listing : (r : Result ℕ Refusal) (d : Kept) (n : Model) → d ≡ kept-after r c → Lined row zero g (rule (Ok (sizes g)) (m .shown)) r m n before after → Listing row zero rule c m r d n before after
+    listing (Ok k) d n t h = record { answer = Ok (h .items); reads = inl (h .still, sym (same ∙ h .rule), t); lines = h .sofar }
+    listing (Err e) d n t (inl h) = record {
+      answer = Err e;
+      reads = inl (h .still, sym (same ∙ h .rule), t ∙ cond-false (eqb (number-of e) 1) (Err e) c (spared e (h .rule)));
+      lines = (refl, h .lines ∙ sym (cond-false (eqb (number-of e) 1) (replicate (length before) zero) before (spared e (h .rule))));
+    }
+    listing (Err e) d n t (inr (w, z)) = met (w .fault) (w .told) (w .failed) z
+      where
+        met : (f : Fault) → e ≡ refusal-of f → Failed g m n f → (power-gone f ≡ true → after ≡ replicate (length before) zero) → Listing row zero rule c m (Err e) d n before after
+        met (PowerGone b) is h z =
+            let one : eqb (number-of e) 1 ≡ true = ap (λ (x : Refusal). eqb (number-of x) 1) is in
+            record {
+              answer = Err e;
+              reads = inr (b, g, good, ap Err is, h, t ∙ cond-true (eqb (number-of e) 1) (Err e) c one ∙ ap Err is);
+              lines = (refl, z refl ∙ sym (cond-true (eqb (number-of e) 1) (replicate (length before) zero) before one));
+            }
+        met (NoSuchBlock b) is h z = let l = subst (λ (x : Kept). Fitting x m) good fit in absurd (omega (arith, l, h .1))

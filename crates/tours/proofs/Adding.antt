@@ -21,10 +21,10 @@ module _ {L : Type 0} where
   adds-then a b xs ys c l c′ l′ c″ l″ p q = record {
     few = omega (arith, length-append xs ys, p .few, q .few);
     onto = λ before done room s.
-      let all = length-append xs ys in
-      let front = length-append done xs in
-      subst (λ (zs : List L). Sofar before zs c″ l″) (append-assoc done xs ys)
-      (q .onto before (done ++ xs) (omega arith) (p .onto before done (omega arith) s));
+        let all = length-append xs ys in
+        let front = length-append done xs in
+        subst (λ (zs : List L). Sofar before zs c″ l″) (append-assoc done xs ys)
+        (q .onto before (done ++ xs) (omega arith) (p .onto before done (omega arith) s));
   }
 
   pub adds-is : (a b : ℕ) (xs ys : List L) (c : ℕ) (l : List L) (c′ : ℕ) (l′ : List L) → a ≤ b → xs ≡ ys → Adds a xs c l c′ l′ → Adds b ys c l c′ l′

@@ -21,7 +21,6 @@ use Rattle.layout.specs.declared.geometry.Geometry.{Geometry as CardGeometry}
 use Rattle.rule.specs.Agree.{Shown, View, seen, slot-at, agrees, good, number, count, cells-in, parent-of, climbs, reached}
 use Rattle.rule.specs.Meaning.{Fits, Sound}
 use Rattle.rule.proofs.Steps.{clash, clash-none, handle-true}
-
 use Rattle.rule.proofs.Walks.{climbs-root, climbs-up, climbs-parts, climbs-within}
 use Rattle.rule.proofs.Means.{fits-at, fits-from, agrees-true, leaf-is, sound-listed, parent-parts, parent-from, up-below}
 use Rattle.walk.specs.Still.{Still, Says, shows}
@@ -49,8 +48,9 @@ module _ (ms : List Bool) (s : ℕ) (l : s < length ms) where
 
   marked-old : (t : ℕ) → Marked ms t → Marked (set ms s true) t
   marked-old t h = elim (cases-eq t s) [
-      inl e ↦ ap (λ (i : ℕ). getD (set ms s true) i false) e ∙ marked-new
-    | inr ne ↦ getD-set-other ms s t true false ne ∙ h ]
+    | inl e ↦ ap (λ (i : ℕ). getD (set ms s true) i false) e ∙ marked-new
+    | inr ne ↦ getD-set-other ms s t true false ne ∙ h
+  ]
 
   marked-was : (t : ℕ) → Marked (set ms s true) t → (t ≡ s) ⊎ Marked ms t
   marked-was t h = elim (cases-eq t s) [ inl e ↦ inl e | inr ne ↦ inr (sym (getD-set-other ms s t true false ne) ∙ h) ]
@@ -76,11 +76,13 @@ module _ (g : Geometry) (v : View) (ms : List Bool) (ws : List ℕ) (n : ℕ) (s
         room = length-set ws n s ∙ sane .room;
         count = ap (λ (k : ℕ). k + 1) (sane .count) ∙ sym (ticks-set ms s in-marks free);
         listed = λ t h. elim (marked-was ms s in-marks t h) [
-            inl e ↦ (n, omega arith, last ∙ sym e)
-          | inr old ↦ (let q = sane .listed t old in (q .0, (let z = q .1 in omega arith), front (q .0) (q .1) ∙ q .2)) ];
+          | inl e ↦ (n, omega arith, last ∙ sym e)
+          | inr old ↦ (let q = sane .listed t old in (q .0, (let z = q .1 in omega arith), front (q .0) (q .1) ∙ q .2))
+        ];
         chained = λ i h. elim (cases-eq i n) [
-            inl e ↦ subst (Chain g v) (sym (ap (λ (j : ℕ). getD (set ws n s) j 0) e ∙ last)) way
-          | inr ne ↦ subst (Chain g v) (sym (front i (omega arith))) (sane .chained i (omega arith)) ];
+          | inl e ↦ subst (Chain g v) (sym (ap (λ (j : ℕ). getD (set ws n s) j 0) e ∙ last)) way
+          | inr ne ↦ subst (Chain g v) (sym (front i (omega arith))) (sane .chained i (omega arith))
+        ];
       };
       grew = record { more = marked-old ms s in-marks; longer = omega arith; front = front };
     }
@@ -124,14 +126,16 @@ worked-then g r Q Q′ m k n ms ws t ms′ ws′ s q h =
 pub cells-more : (z : Geometry) (m l : Model) (f : Handle) (es : List Cell) (k : ℕ) (ms ms′ : List Bool) → Still m l →
     ((t : ℕ) → Marked ms t → Marked ms′ t) → CellsDone z (seen z (m .shown)) f es k ms → CellDone z (seen z (l .shown)) f (getD es k []) ms′ → CellsDone z (seen z (m .shown)) f es (k + 1) ms′
 cells-more z m l f es k ms ms′ s more done here j h n c e a = elim (cases-eq j k) [
-    inl q ↦ moved-back (λ (sh : Shown). CellDone z (seen z sh) f (getD es k []) ms′) m l s here n c (ap (λ (i : ℕ). entry-of z (getD es i [])) (sym q) ∙ e) a
-  | inr ne ↦ more (c .slot .0) (done j (omega arith) n c e a) ]
+  | inl q ↦ moved-back (λ (sh : Shown). CellDone z (seen z sh) f (getD es k []) ms′) m l s here n c (ap (λ (i : ℕ). entry-of z (getD es i [])) (sym q) ∙ e) a
+  | inr ne ↦ more (c .slot .0) (done j (omega arith) n c e a)
+]
 
 pub leaves-more : (z : Geometry) (m l : Model) (f : Handle) (r : Slot) (k : ℕ) (ms ms′ : List Bool) → Still m l →
     ((t : ℕ) → Marked ms t → Marked ms′ t) → LeavesDone z (seen z (m .shown)) f r k ms → LeafDone z (seen z (l .shown)) f r k ms′ → LeavesDone z (seen z (m .shown)) f r (k + 1) ms′
 leaves-more z m l f r k ms ms′ s more done here j h = elim (cases-eq j k) [
-    inl q ↦ subst (λ (i : ℕ). LeafDone z (seen z (m .shown)) f r i ms′) (sym q) (moved-back (λ (sh : Shown). LeafDone z (seen z sh) f r k ms′) m l s here)
-  | inr ne ↦ (λ fine i low n c e a. more (c .slot .0) (done j (omega arith) fine i low n c e a)) ]
+  | inl q ↦ subst (λ (i : ℕ). LeafDone z (seen z (m .shown)) f r i ms′) (sym q) (moved-back (λ (sh : Shown). LeafDone z (seen z sh) f r k ms′) m l s here)
+  | inr ne ↦ (λ fine i low n c e a. more (c .slot .0) (done j (omega arith) fine i low n c e a))
+]
 
 module _ (g : Geometry) (v : View) (f : Handle) where
   pub one-done : (e : Cell) (n : Name) (c : Handle) (ms : List Bool) → entry n c ≡ entry-of g e → Marked ms (c .slot .0) → CellDone g v f e ms
@@ -160,9 +164,6 @@ module _ (g : Geometry) (v : View) (f : Handle) where
     pub leaf-done : (k : ℕ) (es : List Cell) (ms : List Bool) → es ≡ cells-in (v (number r k)) → length es ≡ 15 → CellsDone g v f es 15 ms → LeafDone g v f r k ms
     leaf-done k es ms q len done fine =
         subst (λ (x : List Cell). CellsDone g v f x (length x) ms) q (subst (λ (n : ℕ). CellsDone g v f es n ms) (sym len) done)
-
-    pub leaf-bad : (k : ℕ) (ms : List Bool) → good v f r k ≡ false → LeafDone g v f r k ms
-    leaf-bad k ms bad fine = clash (sym bad ∙ fine)
 
 -- ---- the folder in a slot
 
@@ -218,8 +219,9 @@ sane-few g v ms ws n s = let a = s .count in let b = ticks-few ms in let d = s .
 pub done-more : (z : Geometry) (m k : Model) (ms ms′ : List Bool) (ws ws′ : List ℕ) (n n′ h : ℕ) → Still m k → h < n → Grew ms ws n ms′ ws′ n′ →
     ((i : ℕ) → i < h → Done z (seen z (m .shown)) (getD ws i 0) ms) → Done z (seen z (k .shown)) (getD ws h 0) ms′ → (i : ℕ) → i < h + 1 → Done z (seen z (m .shown)) (getD ws′ i 0) ms′
 done-more z m k ms ms′ ws ws′ n n′ h s low grew done here i l f c kk p x fs snd = elim (cases-eq i h) [
-    inl e ↦ moved-back (λ (sh : Shown). Done z (seen z sh) (getD ws h 0) ms′) m k s here f c kk p x (fs ∙ ap (λ (j : ℕ). getD ws′ j 0) e ∙ grew .front h low) snd
-  | inr ne ↦ grew .more (c .slot .0) (done i (omega arith) f c kk p x (fs ∙ grew .front i (omega arith)) snd) ]
+  | inl e ↦ moved-back (λ (sh : Shown). Done z (seen z sh) (getD ws h 0) ms′) m k s here f c kk p x (fs ∙ ap (λ (j : ℕ). getD ws′ j 0) e ∙ grew .front h low) snd
+  | inr ne ↦ grew .more (c .slot .0) (done i (omega arith) f c kk p x (fs ∙ grew .front i (omega arith)) snd)
+]
 
 -- a chain is what it is to be reached
 module _ (g : Geometry) (v : View) where
@@ -239,8 +241,9 @@ module _ (g : Geometry) (v : View) where
   climbs-chain : (m s : ℕ) → climbs (parent-of g v) m s ≡ true → Chain g v s
   climbs-chain zero s h = subst (Chain g v) (sym (eqb-true s 0 h)) top
   climbs-chain (suc m) s h = elim (climbs-parts (parent-of g v) m s h) [
-      inl e ↦ subst (Chain g v) (sym e) top
-    | inr w ↦ (let q = parent-parts g v s (w .0) (w .1) in below {f = q .slot .parent} {c = handle s (q .slot .identity)} (subst (Chain g v) (sym (q .is)) (climbs-chain m (w .0) (w .2))) (q .sound)) ]
+    | inl e ↦ subst (Chain g v) (sym e) top
+    | inr w ↦ (let q = parent-parts g v s (w .0) (w .1) in below {f = q .slot .parent} {c = handle s (q .slot .identity)} (subst (Chain g v) (sym (q .is)) (climbs-chain m (w .0) (w .2))) (q .sound))
+  ]
 
 pub all-marked : (g : Geometry) (v : View) (ms : List Bool) (ws : List ℕ) (n h : ℕ) → Sane g v ms ws n → n ≤ h → Marked ms 0 → ((i : ℕ) → i < h → Done g v (getD ws i 0) ms) → MarksReached g v ms
 all-marked g v ms ws n h sane over zero-marked done s = go (getD ms s false) (reached g v s) refl refl

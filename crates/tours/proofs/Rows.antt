@@ -128,9 +128,6 @@ module _ (g : Geometry) (v : View) (f : Handle) where
     pub leaves-more : (k : ℕ) → entry-rows g v f (places-over v f r (from 0 k)) ++ entry-rows g v f (leaf-places v f r k) ≡ entry-rows g v f (places-over v f r (from 0 (k + 1)))
     leaves-more k = sym (ap (entry-rows g v f) (over-more k) ∙ rows-append (places-over v f r (from 0 k)) (leaf-places v f r k))
 
-    pub leaf-bad : (k : ℕ) → good v f r k ≡ false → [] ≡ entry-rows g v f (leaf-places v f r k)
-    leaf-bad k e = sym (ap (entry-rows g v f) (cond-false (good v f r k) (places-of k 0 (cells-in (v (number r k)))) [] e))
-
     -- a good leaf's body
     body-of : (k : ℕ) → good v f r k ≡ true → Body (r .kind) (back f k) (v (number r k))
     body-of k e = names-true (r .kind) (back f k) (v (number r k)) (and-parts (ltb k (count r)) (names (r .kind) (back f k) (v (number r k))) e .1)

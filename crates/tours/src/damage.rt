@@ -21,7 +21,15 @@ use walk::slot::SlotCopy;
 use walk::slot::read_slot;
 
 // Adds a leaf, unless it is good.
-fn check_leaf<D: Device>(device: &mut D, g: &Geometry, owner: Handle, slot: &SlotCopy, leaf: LeafNo, lines: &mut [DamageLine], count: usize) -> Result<usize, Fault>
+fn check_leaf<D: Device>(
+    device: &mut D,
+    g: &Geometry,
+    owner: Handle,
+    slot: &SlotCopy,
+    leaf: LeafNo,
+    lines: &mut [DamageLine],
+    count: usize,
+) -> Result<usize, Fault>
     ensures { λ r. ⌜ Lists (now (g .entry)) r 1 (leaf-rows (shows (now (g .entry)) (model (now (device .entry)))) owner (copied (now (slot .entry))) (leaf .0 ∷ [])) (model (now (device .entry))) (model (now (device .exit))) count (now (lines .entry)) (now (lines .exit)) ⌝ }
 {
     let copy = read_leaf(device, g, owner, slot, leaf)?;
@@ -39,7 +47,14 @@ fn check_leaf<D: Device>(device: &mut D, g: &Geometry, owner: Handle, slot: &Slo
 }
 
 // Adds the leaves of a slot that are not good.
-fn check_leaves<D: Device>(device: &mut D, g: &Geometry, owner: Handle, slot: &SlotCopy, lines: &mut [DamageLine], mut count: usize) -> Result<usize, Fault>
+fn check_leaves<D: Device>(
+    device: &mut D,
+    g: &Geometry,
+    owner: Handle,
+    slot: &SlotCopy,
+    lines: &mut [DamageLine],
+    mut count: usize,
+) -> Result<usize, Fault>
     ensures { λ r. ⌜ Lists (now (g .entry)) r 65535 (leaves-rows (shows (now (g .entry)) (model (now (device .entry)))) owner (copied (now (slot .entry)))) (model (now (device .entry))) (model (now (device .exit))) count (now (lines .entry)) (now (lines .exit)) ⌝ }
 {
     for k in 0..slot.count {
@@ -49,7 +64,13 @@ fn check_leaves<D: Device>(device: &mut D, g: &Geometry, owner: Handle, slot: &S
 }
 
 // The same, if the slot is well formed.
-fn check_slot<D: Device>(device: &mut D, g: &Geometry, at: SlotNo, lines: &mut [DamageLine], count: usize) -> Result<usize, Fault>
+fn check_slot<D: Device>(
+    device: &mut D,
+    g: &Geometry,
+    at: SlotNo,
+    lines: &mut [DamageLine],
+    count: usize,
+) -> Result<usize, Fault>
     ensures { λ r. ⌜ Lists (now (g .entry)) r 65535 (slot-rows (sizes (now (g .entry))) (shows (now (g .entry)) (model (now (device .entry)))) (at .0)) (model (now (device .entry))) (model (now (device .exit))) count (now (lines .entry)) (now (lines .exit)) ⌝ }
 {
     let slot = read_slot(device, g, at)?;
@@ -66,7 +87,14 @@ fn check_slot<D: Device>(device: &mut D, g: &Geometry, at: SlotNo, lines: &mut [
 }
 
 // The same, if the slot is marked.
-fn check_marked<D: Device>(device: &mut D, g: &Geometry, at: SlotNo, marked: bool, lines: &mut [DamageLine], count: usize) -> Result<usize, Fault>
+fn check_marked<D: Device>(
+    device: &mut D,
+    g: &Geometry,
+    at: SlotNo,
+    marked: bool,
+    lines: &mut [DamageLine],
+    count: usize,
+) -> Result<usize, Fault>
     ensures { λ r. ⌜ Lists (now (g .entry)) r 65535 (cond marked (slot-rows (sizes (now (g .entry))) (shows (now (g .entry)) (model (now (device .entry)))) (at .0)) []) (model (now (device .entry))) (model (now (device .exit))) count (now (lines .entry)) (now (lines .exit)) ⌝ }
 {
     if marked {
@@ -76,7 +104,12 @@ fn check_marked<D: Device>(device: &mut D, g: &Geometry, at: SlotNo, marked: boo
 }
 
 // Fills the lines with the leaves of marked slots that are not good, by slot, then leaf, and answers their whole number.
-pub fn damage_lines<D: Device>(device: &mut D, g: &Geometry, marks: &[bool; 256], lines: &mut [DamageLine]) -> Result<usize, Fault>
+pub fn damage_lines<D: Device>(
+    device: &mut D,
+    g: &Geometry,
+    marks: &[bool; 256],
+    lines: &mut [DamageLine],
+) -> Result<usize, Fault>
     ensures { λ r. ⌜ Says (now (g .entry)) r (λ n. Sofar (now (lines .entry)) (damage-rows (sizes (now (g .entry))) (shows (now (g .entry)) (model (now (device .entry)))) (now (marks .entry))) n (now (lines .exit))) (model (now (device .entry))) (model (now (device .exit))) ⌝ }
 {
     let mut count = 0;

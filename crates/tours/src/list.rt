@@ -38,7 +38,14 @@ fn put_entry(lines: &mut [EntryLine], count: usize, name: &[u8], child: &Handle)
 }
 
 // Adds the entry in a cell of the folder's leaf, if it is sound.
-fn list_cell<D: Device>(device: &mut D, g: &Geometry, folder: &Handle, bytes: &[u8], lines: &mut [EntryLine], count: usize) -> Result<usize, Fault>
+fn list_cell<D: Device>(
+    device: &mut D,
+    g: &Geometry,
+    folder: &Handle,
+    bytes: &[u8],
+    lines: &mut [EntryLine],
+    count: usize,
+) -> Result<usize, Fault>
     requires { ⌜ length (now bytes) ≡ 32 ⌝ }
     ensures { λ r. ⌜ Lists (now (g .entry)) r 1 (cell-rows (sizes (now (g .entry))) (shows (now (g .entry)) (model (now (device .entry)))) (now (folder .entry)) (now (bytes .entry) ∷ [])) (model (now (device .entry))) (model (now (device .exit))) count (now (lines .entry)) (now (lines .exit)) ⌝ }
 {
@@ -56,7 +63,15 @@ fn list_cell<D: Device>(device: &mut D, g: &Geometry, folder: &Handle, bytes: &[
 }
 
 // The same at a place of the leaf, which has 480 bytes.
-fn list_place<D: Device>(device: &mut D, g: &Geometry, folder: &Handle, payload: &[u8], place: usize, lines: &mut [EntryLine], count: usize) -> Result<usize, Fault>
+fn list_place<D: Device>(
+    device: &mut D,
+    g: &Geometry,
+    folder: &Handle,
+    payload: &[u8],
+    place: usize,
+    lines: &mut [EntryLine],
+    count: usize,
+) -> Result<usize, Fault>
     requires { ⌜ length (now payload) ≡ 480 ⌝ ∗ ⌜ place < 15 ⌝ }
     ensures { λ r. ⌜ Lists (now (g .entry)) r 1 (cell-rows (sizes (now (g .entry))) (shows (now (g .entry)) (model (now (device .entry)))) (now (folder .entry)) (getD (cells (now (payload .entry))) place [] ∷ [])) (model (now (device .entry))) (model (now (device .exit))) count (now (lines .entry)) (now (lines .exit)) ⌝ }
 {
@@ -67,7 +82,14 @@ fn list_place<D: Device>(device: &mut D, g: &Geometry, folder: &Handle, payload:
 }
 
 // Adds the sound entries of a good leaf.
-fn list_cells<D: Device>(device: &mut D, g: &Geometry, folder: &Handle, payload: &[u8], lines: &mut [EntryLine], mut count: usize) -> Result<usize, Fault>
+fn list_cells<D: Device>(
+    device: &mut D,
+    g: &Geometry,
+    folder: &Handle,
+    payload: &[u8],
+    lines: &mut [EntryLine],
+    mut count: usize,
+) -> Result<usize, Fault>
     requires { ⌜ length (now payload) ≡ 480 ⌝ }
     ensures { λ r. ⌜ Lists (now (g .entry)) r 15 (cell-rows (sizes (now (g .entry))) (shows (now (g .entry)) (model (now (device .entry)))) (now (folder .entry)) (cells (now (payload .entry)))) (model (now (device .entry))) (model (now (device .exit))) count (now (lines .entry)) (now (lines .exit)) ⌝ }
 {
@@ -78,7 +100,15 @@ fn list_cells<D: Device>(device: &mut D, g: &Geometry, folder: &Handle, payload:
 }
 
 // Adds the sound entries of a leaf, if the leaf is good.
-fn list_leaf<D: Device>(device: &mut D, g: &Geometry, folder: &Handle, slot: &SlotCopy, leaf: LeafNo, lines: &mut [EntryLine], count: usize) -> Result<usize, Fault>
+fn list_leaf<D: Device>(
+    device: &mut D,
+    g: &Geometry,
+    folder: &Handle,
+    slot: &SlotCopy,
+    leaf: LeafNo,
+    lines: &mut [EntryLine],
+    count: usize,
+) -> Result<usize, Fault>
     requires { ⌜ now slot .kind ≡ Folder ⌝ }
     ensures { λ r. ⌜ Lists (now (g .entry)) r 15 (entry-rows (sizes (now (g .entry))) (shows (now (g .entry)) (model (now (device .entry)))) (now (folder .entry)) (leaf-places (shows (now (g .entry)) (model (now (device .entry)))) (now (folder .entry)) (copied (now (slot .entry))) (leaf .0))) (model (now (device .entry))) (model (now (device .exit))) count (now (lines .entry)) (now (lines .exit)) ⌝ }
 {
@@ -91,7 +121,13 @@ fn list_leaf<D: Device>(device: &mut D, g: &Geometry, folder: &Handle, slot: &Sl
 
 // Fills the lines with the sound entries of a folder, by leaf, then place, and answers their whole number; a file has none.
 // Each leaf is read once, and the child's slot of each well-formed entry.
-pub fn list_entries<D: Device>(device: &mut D, g: &Geometry, folder: Handle, slot: &SlotCopy, lines: &mut [EntryLine]) -> Result<usize, Fault>
+pub fn list_entries<D: Device>(
+    device: &mut D,
+    g: &Geometry,
+    folder: Handle,
+    slot: &SlotCopy,
+    lines: &mut [EntryLine],
+) -> Result<usize, Fault>
     ensures { λ r. ⌜ Says (now (g .entry)) r (λ n. Sofar (now (lines .entry)) (entry-rows (sizes (now (g .entry))) (shows (now (g .entry)) (model (now (device .entry)))) folder (places (shows (now (g .entry)) (model (now (device .entry)))) folder (copied (now (slot .entry))))) n (now (lines .exit))) (model (now (device .entry))) (model (now (device .exit))) ⌝ }
 {
     match slot.kind {

@@ -37,7 +37,15 @@ fn enter(marks: &mut [bool; 256], work: &mut [u16; 256], tail: usize, at: SlotNo
 }
 
 // Enters the child of the entry in a cell, if the entry is sound.
-fn mark_cell<D: Device>(device: &mut D, g: &Geometry, folder: &Handle, bytes: &[u8], marks: &mut [bool; 256], work: &mut [u16; 256], tail: usize) -> Result<usize, Fault>
+fn mark_cell<D: Device>(
+    device: &mut D,
+    g: &Geometry,
+    folder: &Handle,
+    bytes: &[u8],
+    marks: &mut [bool; 256],
+    work: &mut [u16; 256],
+    tail: usize,
+) -> Result<usize, Fault>
     requires { ⌜ length (now bytes) ≡ 32 ⌝ ∗ ⌜ Sane (sizes (now g)) (shows (now g) (model (now device))) (now marks) (now work) tail ⌝ ∗ ⌜ CellChained (sizes (now g)) (shows (now g) (model (now device))) (now folder) (now bytes) ⌝ }
     ensures { λ r. ⌜ Worked (now (g .entry)) r (CellDone (sizes (now (g .entry))) (shows (now (g .entry)) (model (now (device .entry)))) (now (folder .entry)) (now (bytes .entry))) (model (now (device .entry))) (model (now (device .exit))) (now (marks .entry)) (now (work .entry)) tail (now (marks .exit)) (now (work .exit)) ⌝ }
 {
@@ -55,7 +63,16 @@ fn mark_cell<D: Device>(device: &mut D, g: &Geometry, folder: &Handle, bytes: &[
 }
 
 // The same at a place of a leaf, which has 480 bytes.
-fn mark_place<D: Device>(device: &mut D, g: &Geometry, folder: &Handle, payload: &[u8], place: usize, marks: &mut [bool; 256], work: &mut [u16; 256], tail: usize) -> Result<usize, Fault>
+fn mark_place<D: Device>(
+    device: &mut D,
+    g: &Geometry,
+    folder: &Handle,
+    payload: &[u8],
+    place: usize,
+    marks: &mut [bool; 256],
+    work: &mut [u16; 256],
+    tail: usize,
+) -> Result<usize, Fault>
     requires { ⌜ length (now payload) ≡ 480 ⌝ ∗ ⌜ place < 15 ⌝ ∗ ⌜ Sane (sizes (now g)) (shows (now g) (model (now device))) (now marks) (now work) tail ⌝ ∗ ⌜ CellChained (sizes (now g)) (shows (now g) (model (now device))) (now folder) (getD (cells (now payload)) place []) ⌝ }
     ensures { λ r. ⌜ Worked (now (g .entry)) r (CellDone (sizes (now (g .entry))) (shows (now (g .entry)) (model (now (device .entry)))) (now (folder .entry)) (getD (cells (now (payload .entry))) place [])) (model (now (device .entry))) (model (now (device .exit))) (now (marks .entry)) (now (work .entry)) tail (now (marks .exit)) (now (work .exit)) ⌝ }
 {
@@ -66,7 +83,15 @@ fn mark_place<D: Device>(device: &mut D, g: &Geometry, folder: &Handle, payload:
 }
 
 // Enters the children of the sound entries of a good leaf.
-fn mark_cells<D: Device>(device: &mut D, g: &Geometry, folder: &Handle, payload: &[u8], marks: &mut [bool; 256], work: &mut [u16; 256], mut tail: usize) -> Result<usize, Fault>
+fn mark_cells<D: Device>(
+    device: &mut D,
+    g: &Geometry,
+    folder: &Handle,
+    payload: &[u8],
+    marks: &mut [bool; 256],
+    work: &mut [u16; 256],
+    mut tail: usize,
+) -> Result<usize, Fault>
     requires { ⌜ length (now payload) ≡ 480 ⌝ ∗ ⌜ Sane (sizes (now g)) (shows (now g) (model (now device))) (now marks) (now work) tail ⌝ ∗ ⌜ CellsChained (sizes (now g)) (shows (now g) (model (now device))) (now folder) (cells (now payload)) ⌝ }
     ensures { λ r. ⌜ Worked (now (g .entry)) r (CellsDone (sizes (now (g .entry))) (shows (now (g .entry)) (model (now (device .entry)))) (now (folder .entry)) (cells (now (payload .entry))) 15) (model (now (device .entry))) (model (now (device .exit))) (now (marks .entry)) (now (work .entry)) tail (now (marks .exit)) (now (work .exit)) ⌝ }
 {
@@ -77,7 +102,16 @@ fn mark_cells<D: Device>(device: &mut D, g: &Geometry, folder: &Handle, payload:
 }
 
 // Enters the children in a leaf, if the leaf is good.
-fn mark_leaf<D: Device>(device: &mut D, g: &Geometry, folder: &Handle, slot: &SlotCopy, leaf: LeafNo, marks: &mut [bool; 256], work: &mut [u16; 256], tail: usize) -> Result<usize, Fault>
+fn mark_leaf<D: Device>(
+    device: &mut D,
+    g: &Geometry,
+    folder: &Handle,
+    slot: &SlotCopy,
+    leaf: LeafNo,
+    marks: &mut [bool; 256],
+    work: &mut [u16; 256],
+    tail: usize,
+) -> Result<usize, Fault>
     requires { ⌜ Open (sizes (now g)) (shows (now g) (model (now device))) (now folder) (copied (now slot)) ⌝ ∗ ⌜ Sane (sizes (now g)) (shows (now g) (model (now device))) (now marks) (now work) tail ⌝ }
     ensures { λ r. ⌜ Worked (now (g .entry)) r (LeafDone (sizes (now (g .entry))) (shows (now (g .entry)) (model (now (device .entry)))) (now (folder .entry)) (copied (now (slot .entry))) (leaf .0)) (model (now (device .entry))) (model (now (device .exit))) (now (marks .entry)) (now (work .entry)) tail (now (marks .exit)) (now (work .exit)) ⌝ }
 {
@@ -89,7 +123,15 @@ fn mark_leaf<D: Device>(device: &mut D, g: &Geometry, folder: &Handle, slot: &Sl
 }
 
 // Enters the children in the leaves of a folder.
-fn mark_leaves<D: Device>(device: &mut D, g: &Geometry, folder: &Handle, slot: &SlotCopy, marks: &mut [bool; 256], work: &mut [u16; 256], mut tail: usize) -> Result<usize, Fault>
+fn mark_leaves<D: Device>(
+    device: &mut D,
+    g: &Geometry,
+    folder: &Handle,
+    slot: &SlotCopy,
+    marks: &mut [bool; 256],
+    work: &mut [u16; 256],
+    mut tail: usize,
+) -> Result<usize, Fault>
     requires { ⌜ Open (sizes (now g)) (shows (now g) (model (now device))) (now folder) (copied (now slot)) ⌝ ∗ ⌜ Sane (sizes (now g)) (shows (now g) (model (now device))) (now marks) (now work) tail ⌝ }
     ensures { λ r. ⌜ Worked (now (g .entry)) r (LeavesDone (sizes (now (g .entry))) (shows (now (g .entry)) (model (now (device .entry)))) (now (folder .entry)) (copied (now (slot .entry))) (now (slot .entry) .count)) (model (now (device .entry))) (model (now (device .exit))) (now (marks .entry)) (now (work .entry)) tail (now (marks .exit)) (now (work .exit)) ⌝ }
 {
@@ -100,7 +142,14 @@ fn mark_leaves<D: Device>(device: &mut D, g: &Geometry, folder: &Handle, slot: &
 }
 
 // Enters the children of the folder in a slot; a file has none.
-fn expand<D: Device>(device: &mut D, g: &Geometry, at: SlotNo, marks: &mut [bool; 256], work: &mut [u16; 256], tail: usize) -> Result<usize, Fault>
+fn expand<D: Device>(
+    device: &mut D,
+    g: &Geometry,
+    at: SlotNo,
+    marks: &mut [bool; 256],
+    work: &mut [u16; 256],
+    tail: usize,
+) -> Result<usize, Fault>
     requires { ⌜ Chain (sizes (now g)) (shows (now g) (model (now device))) (at .0) ⌝ ∗ ⌜ Sane (sizes (now g)) (shows (now g) (model (now device))) (now marks) (now work) tail ⌝ }
     ensures { λ r. ⌜ Worked (now (g .entry)) r (Done (sizes (now (g .entry))) (shows (now (g .entry)) (model (now (device .entry)))) (at .0)) (model (now (device .entry))) (model (now (device .exit))) (now (marks .entry)) (now (work .entry)) tail (now (marks .exit)) (now (work .exit)) ⌝ }
 {

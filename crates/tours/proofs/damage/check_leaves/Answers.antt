@@ -19,15 +19,17 @@ loop-k-again g c =
     let k = g .D·Device .model (c .loop-k .device) in
     let r = copied (c .args .slot .now) in
     let h = c .args .owner in
-    let e = c .in-Continue-count .ensures tt in
-    (still-then m k _ (c .loop-k .inv .0) (e .0),
-    adds-more (λ (sh : Shown). leaf-rows (seen z sh) h r (c .loop-k .k ∷ [])) m k (c .loop-k .k) 1 _ _ _ _ _ _ _ _ _ (c .loop-k .inv .0) (omega arith)
-    (leaves-more (seen z (m .shown)) h r (c .loop-k .k)) (c .loop-k .inv .1) (e .1))
+    let e = c .in-Continue-count .ensures tt in (
+      still-then m k _ (c .loop-k .inv .0) (e .0),
+      adds-more (λ (sh : Shown). leaf-rows (seen z sh) h r (c .loop-k .k ∷ [])) m k (c .loop-k .k) 1 _ _ _ _ _ _ _ _ _ (c .loop-k .inv .0) (omega arith)
+          (leaves-more (seen z (m .shown)) h r (c .loop-k .k)) (c .loop-k .inv .1) (e .1),
+    )
 
 pub returns : need.returns
 returns g c =
     let v = seen (sizes (c .args .g .now)) (g .D·Device .model (c .args .device .now) .shown) in
     let r = copied (c .args .slot .now) in
-    let all : c .loop-k .k ≡ count r = omega (arith, length-numbers (c .args .slot .now .count) (c .args .slot .now .numbers)) in
-    (c .loop-k .inv .0,
-    adds-is (c .loop-k .k) 65535 _ _ _ _ _ _ (omega arith) (ap (λ (n : ℕ). leaf-rows v (c .args .owner) r (from 0 n)) all) (c .loop-k .inv .1))
+    let all : c .loop-k .k ≡ count r = omega (arith, length-numbers (c .args .slot .now .count) (c .args .slot .now .numbers)) in (
+      c .loop-k .inv .0,
+      adds-is (c .loop-k .k) 65535 _ _ _ _ _ _ (omega arith) (ap (λ (n : ℕ). leaf-rows v (c .args .owner) r (from 0 n)) all) (c .loop-k .inv .1),
+    )

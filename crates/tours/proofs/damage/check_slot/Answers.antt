@@ -32,5 +32,5 @@ returns-in-Some g c =
     (λ (c′ : ℕ). Adds 65535 (slot-rows z (seen z (m .shown)) s) count lines c′ after)
     m k n (e .0)
     (λ c′ w. adds-is 65535 65535 _ _ _ _ _ _ (omega arith) there
-      (subst (λ (sh : Shown). Adds 65535 (leaves-rows (seen z sh) h r) count lines c′ after) (e .0 .kept .shown) w))
+    (subst (λ (sh : Shown). Adds 65535 (leaves-rows (seen z sh) h r) count lines c′ after) (e .0 .kept .shown) w))
     (c .check-leaves .ensures)

@@ -20,14 +20,16 @@ loop-place-again g c =
     let es = cells (c .args .payload .now) in
     let f = c .args .folder .now in
     let i = c .loop-place .place in
-    let e = c .in-Continue-count .ensures tt in
-    (still-then m k _ (c .loop-place .inv .0) (e .0),
-    adds-more (λ (sh : Shown). cell-rows z (seen z sh) f (getD es i [] ∷ [])) m k i 1 _ _ _ _ _ _ _ _ _ (c .loop-place .inv .0) (omega arith)
-    (rows-more z (seen z (m .shown)) f es i (omega (arith, length-cells (c .args .payload .now)))) (c .loop-place .inv .1) (e .1))
+    let e = c .in-Continue-count .ensures tt in (
+      still-then m k _ (c .loop-place .inv .0) (e .0),
+      adds-more (λ (sh : Shown). cell-rows z (seen z sh) f (getD es i [] ∷ [])) m k i 1 _ _ _ _ _ _ _ _ _ (c .loop-place .inv .0) (omega arith)
+          (rows-more z (seen z (m .shown)) f es i (omega (arith, length-cells (c .args .payload .now)))) (c .loop-place .inv .1) (e .1),
+    )
 
 pub returns : need.returns
-returns g c =
-    (c .loop-place .inv .0,
-    adds-is (c .loop-place .place) 15 _ _ _ _ _ _ (omega arith)
-    (rows-all (sizes (c .args .g .now)) (shows (c .args .g .now) (g .D·Device .model (c .args .device .now))) (c .args .folder .now) (cells (c .args .payload .now)) (c .loop-place .place) (omega (arith, length-cells (c .args .payload .now))))
-    (c .loop-place .inv .1))
+returns g c = (
+  c .loop-place .inv .0,
+  adds-is (c .loop-place .place) 15 _ _ _ _ _ _ (omega arith)
+      (rows-all (sizes (c .args .g .now)) (shows (c .args .g .now) (g .D·Device .model (c .args .device .now))) (c .args .folder .now) (cells (c .args .payload .now)) (c .loop-place .place) (omega (arith, length-cells (c .args .payload .now))))
+      (c .loop-place .inv .1),
+)

@@ -34,10 +34,11 @@ loop-k-again g c =
     let k = g .D·Device .model (c .loop-k .device) in
     let r = copied (c .args .slot .now) in
     let f = c .args .folder in
-    let e = c .in-Continue-count .ensures tt in
-    (still-then m k _ (c .loop-k .inv .0) (e .0),
-    adds-more (λ (sh : Shown). entry-rows z (seen z sh) f (leaf-places (seen z sh) f r (c .loop-k .k))) m k (15 * c .loop-k .k) 15 _ _ _ _ _ _ _ _ _ (c .loop-k .inv .0) (omega arith)
-    (leaves-more z (seen z (m .shown)) f r (c .loop-k .k)) (c .loop-k .inv .1) (e .1))
+    let e = c .in-Continue-count .ensures tt in (
+      still-then m k _ (c .loop-k .inv .0) (e .0),
+      adds-more (λ (sh : Shown). entry-rows z (seen z sh) f (leaf-places (seen z sh) f r (c .loop-k .k))) m k (15 * c .loop-k .k) 15 _ _ _ _ _ _ _ _ _ (c .loop-k .inv .0) (omega arith)
+          (leaves-more z (seen z (m .shown)) f r (c .loop-k .k)) (c .loop-k .inv .1) (e .1),
+    )
 
 pub returns : need.returns
 returns g c =
@@ -46,7 +47,8 @@ returns g c =
     let r = copied (c .args .slot .now) in
     let f = c .args .folder in
     let all : c .loop-k .k ≡ count r = omega (arith, length-numbers (c .args .slot .now .count) (c .args .slot .now .numbers)) in
-    let few : 15 * c .loop-k .k < 2 ^ 64 = omega arith in
-    (c .loop-k .inv .0,
-    subst (λ (n : ℕ). Sofar (c .args .lines .now) (entry-rows z v f (places-over v f r (from 0 n))) (c .loop-k .count) (c .loop-k .lines)) all
-    (adds-all (15 * c .loop-k .k) _ _ _ _ few (c .loop-k .inv .1)))
+    let few : 15 * c .loop-k .k < 2 ^ 64 = omega arith in (
+      c .loop-k .inv .0,
+      subst (λ (n : ℕ). Sofar (c .args .lines .now) (entry-rows z v f (places-over v f r (from 0 n))) (c .loop-k .count) (c .loop-k .lines)) all
+          (adds-all (15 * c .loop-k .k) _ _ _ _ few (c .loop-k .inv .1)),
+    )

@@ -32,6 +32,6 @@ returns-in-Some g c =
     (λ (c′ : ℕ). Adds 15 (entry-rows z (seen z (m .shown)) f (leaf-places (seen z (m .shown)) f r (c .args .leaf .0))) count lines c′ after)
     m k n (e .0)
     (λ c′ h. adds-is 15 15 _ _ _ _ _ _ (omega arith)
-      (leaf-good z (seen z (m .shown)) f r (c .args .leaf .0) l (c .pre) (is .0) (is .1))
-      (subst (λ (sh : Shown). Adds 15 (cell-rows z (seen z sh) f (cells (take 480 (l .bytes)))) count lines c′ after) (e .0 .kept .shown) h))
+    (leaf-good z (seen z (m .shown)) f r (c .args .leaf .0) l (c .pre) (is .0) (is .1))
+    (subst (λ (sh : Shown). Adds 15 (cell-rows z (seen z sh) f (cells (take 480 (l .bytes)))) count lines c′ after) (e .0 .kept .shown) h))
     (c .list-cells .ensures)

@@ -25,6 +25,6 @@ returns-in-Folder g c =
     worked-then (c .args .g .now) (c .mark-leaves .result) (LeavesDone z (seen z (k .shown)) f r (copy .count)) (Done z (seen z (m .shown)) s) m k (g .D·Device .model (c .mark-leaves .last .device))
     (c .args .marks .now) (c .args .work .now) (c .args .tail) ms′ (c .mark-leaves .last .work) (e .0)
     (λ h. done-folder z (seen z (m .shown)) s r ms′ at
-      (subst (λ (n : ℕ). LeavesDone z (seen z (m .shown)) f r n ms′) (sym (length-numbers (copy .count) (copy .numbers)))
-      (moved-back (λ (sh : Shown). LeavesDone z (seen z sh) f r (copy .count) ms′) m k (e .0) h)))
+    (subst (λ (n : ℕ). LeavesDone z (seen z (m .shown)) f r n ms′) (sym (length-numbers (copy .count) (copy .numbers)))
+    (moved-back (λ (sh : Shown). LeavesDone z (seen z sh) f r (copy .count) ms′) m k (e .0) h)))
     (c .mark-leaves .ensures)

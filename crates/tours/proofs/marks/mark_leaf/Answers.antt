@@ -25,10 +25,14 @@ mark-cells-requires g c κs =
     let e = c .in-Continue-copy .ensures tt in
     let is = subst (LeafIs (seen z (m .shown)) f r (c .args .leaf .0)) (c .in-Some .is) (e .1) in
     let same = leaf-cells z (seen z (m .shown)) f r (c .args .leaf .0) l (c .pre .0 .kind) (is .0) (is .1) .1 in
-    let whole : length (take 480 (c .in-Some .l .bytes)) ≡ 480 = search needs in
-    (whole, (sane-moved z m k _ _ _ (e .0) (c .pre .1),
-    moved (λ (sh : Shown). CellsChained z (seen z sh) f (cells (take 480 (l .bytes)))) m k (e .0)
-    (subst (CellsChained z (seen z (m .shown)) f) (sym same) (leaf-chained z (seen z (m .shown)) f r (c .args .leaf .0) (c .pre .0) (is .0)))))
+    let whole : length (take 480 (c .in-Some .l .bytes)) ≡ 480 = search needs in (
+      whole,
+      (
+        sane-moved z m k _ _ _ (e .0) (c .pre .1),
+        moved (λ (sh : Shown). CellsChained z (seen z sh) f (cells (take 480 (l .bytes)))) m k (e .0)
+            (subst (CellsChained z (seen z (m .shown)) f) (sym same) (leaf-chained z (seen z (m .shown)) f r (c .args .leaf .0) (c .pre .0) (is .0))),
+      ),
+    )
 
 pub returns-in-Some : need.returns-in-Some
 returns-in-Some g c =

@@ -35,9 +35,10 @@ expand-requires g c κs =
     let z = sizes (c .args .g .now) in
     let m = g .D·Device .model (c .args .device .now) in
     let k = g .D·Device .model (c .loop-head .device) in
-    let v = c .loop-head .inv in
-    (moved (λ (sh : Shown). Chain z (seen z sh) (getD (c .loop-head .work) (c .loop-head .head) 0)) m k (v .0) (v .1 .chained (c .loop-head .head) (c .loop-head-test .taken)),
-    sane-moved z m k _ _ _ (v .0) (v .1))
+    let v = c .loop-head .inv in (
+      moved (λ (sh : Shown). Chain z (seen z sh) (getD (c .loop-head .work) (c .loop-head .head) 0)) m k (v .0) (v .1 .chained (c .loop-head .head) (c .loop-head-test .taken)),
+      sane-moved z m k _ _ _ (v .0) (v .1),
+    )
 
 pub loop-head-again : need.loop-head-again
 loop-head-again g c =
@@ -46,12 +47,13 @@ loop-head-again g c =
     let k = g .D·Device .model (c .loop-head .device) in
     let v = c .loop-head .inv in
     let e = c .in-Continue-tail .ensures tt in
-    let grew = e .1 .0 .grew in
-    (still-then m k _ (v .0) (e .0),
-    moved-back (λ (sh : Shown). Sane z (seen z sh) (c .expand .last .marks) (c .expand .last .work) (c .in-Continue-tail .tail)) m k (v .0) (e .1 .0 .sane),
-    grew .more 0 (v .2),
-    (let a = grew .longer in let b = c .loop-head-test .taken in omega arith),
-    done-more z m k _ _ _ _ _ _ (c .loop-head .head) (v .0) (c .loop-head-test .taken) grew (v .4) (e .1 .1))
+    let grew = e .1 .0 .grew in (
+      still-then m k _ (v .0) (e .0),
+      moved-back (λ (sh : Shown). Sane z (seen z sh) (c .expand .last .marks) (c .expand .last .work) (c .in-Continue-tail .tail)) m k (v .0) (e .1 .0 .sane),
+      grew .more 0 (v .2),
+      (let a = grew .longer in let b = c .loop-head-test .taken in omega arith),
+      done-more z m k _ _ _ _ _ _ (c .loop-head .head) (v .0) (c .loop-head-test .taken) grew (v .4) (e .1 .1),
+    )
 
 pub returns : need.returns
 returns g c =
