@@ -1,0 +1,3 @@
+// A card on a device: what can be read of it.
+pub mod core;
+pub mod opened;
