@@ -24,6 +24,7 @@ use Rattle.rule.specs.Agree.{Shown, seen, count}
 use Rattle.rule.specs.Card.{Ready}
 use Rattle.rule.specs.Check.{Answer, _>>=_}
 use Rattle.rule.specs.Reading.{named, step, find, fits, status, Status}
+use Rattle.history.specs.Events.{Reads, opened}
 use Rattle.walk.specs.Still.{Still, Failed, Refused}
 use Rattle.walk.proofs.Stills.{still}
 use Rattle.walk.proofs.Stepping.{bind-ok, bind-err}
@@ -78,3 +79,27 @@ module _ (h : Handle) (shown : Shown) where
   pub status-of : (x : Ready) (g : Geometry) (s : Slot) → x ≡ Ok g → fits g (seen g shown) h ≡ Ok s → status h x shown ≡ Ok (record { kind = s .kind; count = count s; parent = s .parent })
   unfolding status
   status-of x g s r q = bind-ok _ _ g r ∙ bind-ok _ _ s q
+
+-- ---- on a card only opened
+
+module _ {A E : Type 0} (met : BlockNo → E) (rule : Ready → Shown → Result A E) (c : Kept) (m : Model) (r : Result A E) (d : Kept) (n : Model) where
+  pub still-fitting : CoreReads met rule c m r d n → Fitting c m → Fitting d n
+  still-fitting (inl h) fit = subst (λ (z : Kept). Fitting z n) (sym (h .2)) (fits-on c (h .0 .kept .count) fit)
+    where
+      fits-on : (c : Kept) → n .count ≡ m .count → Fitting c m → Fitting c n
+      fits-on (Ok g) e f = omega (arith, e, f)
+      fits-on (Err x) e f = tt
+  still-fitting (inr h) fit = subst (λ (z : Kept). Fitting z n) (sym (h .5)) tt
+
+  pub opened-reads : (next highest : ℕ) → CoreReads met rule c m r d n →
+      Reads met rule (record { device = m; card = opened (record { ready = ready-view c; next = next; highest = highest }) }) r (record { device = n; card = opened (record { ready = ready-view d; next = next; highest = highest }) })
+  opened-reads next highest (inl h) = record {
+    ready = ready-view c;
+    has = refl;
+    turn = inl (h .1, record { kept = h .0 .kept; power = h .0 .power; card = ap (λ (k : Kept). opened (record { ready = ready-view k; next = next; highest = highest })) (h .2) });
+  }
+  opened-reads next highest (inr h) = record {
+    ready = ready-view c;
+    has = refl;
+    turn = inr (h .0, (sizes (h .1), ap ready-view (h .2)), h .3, record { lost = h .4; card = ap (λ (k : Kept). opened (record { ready = ready-view k; next = next; highest = highest })) (h .5) });
+  }

@@ -1,2 +1,3 @@
 pub mod Quiet
 pub mod Cores
+pub mod Opens

@@ -1,2 +1,3 @@
 pub mod Views
 pub mod Calls
+pub mod Opening

@@ -1,3 +1,4 @@
 // A card on a device: what can be read of it.
 pub mod core;
+pub mod open;
 pub mod opened;
