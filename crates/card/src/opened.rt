@@ -4,9 +4,16 @@ ghost use Rattle.std.specs.Results.{mapped};
 ghost use Rattle.base.specs.declared.refusal.Refusal.the-variants.{PowerGone};
 ghost use Rattle.rule.specs.Reading as reading;
 ghost use Rattle.history.specs.Events.{Reads, Opens, closed};
+ghost use mathlib.Core.List.{List};
+ghost use Prim.Native.Nat.{ℕ};
+ghost use lib.ListN.{length};
+ghost use Rattle.rule.specs.Check.{Answer};
+ghost use Rattle.card.specs.Calls.{Fills};
 ghost use Rattle.card.specs.Views.{Fitting, status-view, opened-state};
 use base::number::Identity;
+use base::number::LeafNo;
 use base::owner::Handle;
+use base::refusal::PathRefusal;
 use base::refusal::Refusal;
 use crate::core::Core;
 use crate::core::Status;
@@ -52,5 +59,22 @@ impl<D: Device> Opened<D> {
         ensures fitting { λ _. ⌜ (Fitting (now (self .entry) .core .ready) (D·Device .model (now (self .entry) .core .device)) → Fitting (now (self .exit) .core .ready) (D·Device .model (now (self .exit) .core .device))) ⌝ }
     {
         self.core.status(handle)
+    }
+
+    // The file or folder that a path leads to, from the root. A refusal tells the component too.
+    pub fn path(&mut self, path: &[u8]) -> Result<Handle, PathRefusal>
+        ensures reads { λ r. ⌜ (Fitting (now (self .entry) .core .ready) (D·Device .model (now (self .entry) .core .device)) → (i : ℕ) × Reads (λ b. record { lower = PowerGone b; component = i }) (reading.path (now (path .entry))) (opened-state (now (self .entry)) (D·Device .model (now (self .entry) .core .device))) r (opened-state (now (self .exit)) (D·Device .model (now (self .exit) .core .device)))) ⌝ }
+        ensures fitting { λ _. ⌜ (Fitting (now (self .entry) .core .ready) (D·Device .model (now (self .entry) .core .device)) → Fitting (now (self .exit) .core .ready) (D·Device .model (now (self .exit) .core .device))) ⌝ }
+    {
+        self.core.path(path)
+    }
+
+    // A leaf of a file, into the front of a buffer of at least 496 bytes; answers how many. The rest of the buffer stays
+    // as it is, and any refusal leaves all of it so.
+    pub fn read(&mut self, handle: &Handle, leaf: LeafNo, buffer: &mut [u8]) -> Result<usize, Refusal>
+        ensures reads { λ r. ⌜ (Fitting (now (self .entry) .core .ready) (D·Device .model (now (self .entry) .core .device)) → (a : Answer (List ℕ)) × Reads PowerGone (reading.read (now (handle .entry)) (leaf .0) (length (now (buffer .entry)))) (opened-state (now (self .entry)) (D·Device .model (now (self .entry) .core .device))) a (opened-state (now (self .exit)) (D·Device .model (now (self .exit) .core .device))) × Fills a r (now (buffer .entry)) (now (buffer .exit))) ⌝ }
+        ensures fitting { λ _. ⌜ (Fitting (now (self .entry) .core .ready) (D·Device .model (now (self .entry) .core .device)) → Fitting (now (self .exit) .core .ready) (D·Device .model (now (self .exit) .core .device))) ⌝ }
+    {
+        self.core.read(handle, leaf, buffer)
     }
 }
