@@ -1,0 +1,4 @@
+pub mod Views
+pub mod Calls
+pub mod Opening
+pub mod Files
