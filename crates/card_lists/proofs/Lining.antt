@@ -1,7 +1,7 @@
 -- The rule's lists, and what becomes of the caller's lines.
 use mathlib.Core.Path.{_≡_, refl, sym, ap, subst, _∙_}
 use mathlib.Core.Bool.{Bool, true, false, cond}
-use mathlib.Core.List.{List, [], _∷_, map}
+use mathlib.Core.List.{List, [], _∷_}
 use mathlib.Core.Logic.{_⊎_, inl, inr}
 use Prim.Native.Nat.{ℕ}
 use native.Mathlib.Omega.{arith}
@@ -28,12 +28,11 @@ use Rattle.layout.specs.declared.geometry.Geometry.{Geometry as CardGeometry}
 use Rattle.rule.specs.Agree.{Shown, View, seen, those, places, reached, slots-of, slot-at, same-kind}
 use Rattle.rule.specs.Card.{Ready}
 use Rattle.rule.specs.Check.{Answer, _>>=_, check, demand}
-use Rattle.rule.specs.Reading.{EntryLine, DamageLine, fits, kind-is, reading, list, damage, bad-leaves}
+use Rattle.rule.specs.Reading.{fits, kind-is, reading, list, damage, bad-leaves}
 use Rattle.rule.proofs.Steps.{clash}
 use Rattle.walk.specs.Still.{Refused, Failed}
 use Rattle.walk.proofs.Stills.{still}
 use Rattle.tours.specs.Lists.{entry-lines}
-use Rattle.tours.specs.Damage.{damage-row, damage-rows}
 use Rattle.tours.specs.Marks.{MarksReached}
 use Rattle.card_lists.specs.Lined.{gone, Filled, Left, Met, Fills, Lined}
 use Rattle.card_lists.specs.Ready.{Kept, ready-view, Fitting, kept-after, Listing}

@@ -1,5 +1,5 @@
 -- The rows of damage, leaf by leaf and slot by slot.
-use mathlib.Core.Path.{_≡_, refl, sym, ap, subst, _∙_}
+use mathlib.Core.Path.{_≡_, refl, sym, ap, _∙_}
 use mathlib.Core.Bool.{Bool, true, false, cond, not}
 use mathlib.Core.List.{List, [], _∷_, _++_, map}
 use Prim.Native.Nat.{ℕ, _+_}
@@ -10,10 +10,10 @@ use Rattle.std.proofs.shelf.Lists.{append-assoc, append-nil, map-append}
 use Rattle.std.proofs.shelf.Lanes.{map-map}
 use Rattle.base.specs.declared.owner.Handle.{Handle}
 use Rattle.layout.specs.Format.{Geometry, Slot, handle}
-use Rattle.rule.specs.Agree.{View, those, from, good, count, slot-at, slots-of}
+use Rattle.rule.specs.Agree.{View, those, from, good, count, slot-at}
 use Rattle.rule.specs.Reading.{DamageLine, bad-leaves-of, bad-leaves}
 use Rattle.listing.specs.declared.line.DamageLine.{DamageLine as DamageRow}
-use Rattle.tours.specs.Damage.{damage-row, leaf-rows, leaves-rows, slot-rows, marked-rows, damage-rows}
+use Rattle.tours.specs.Damage.{damage-row, leaf-rows, leaves-rows, slot-rows, marked-rows}
 use Rattle.tours.proofs.Rows.{those-append, from-more}
 
 pub leaves-more : (v : View) (h : Handle) (r : Slot) (k : ℕ) → leaf-rows v h r (from 0 k) ++ leaf-rows v h r (k ∷ []) ≡ leaf-rows v h r (from 0 (k + 1))

@@ -1,32 +1,29 @@
 -- The work goes on.
 use mathlib.Core.Path.{_≡_, refl, sym, ap, subst, _∙_}
-use mathlib.Core.Bool.{Bool, true, false, cond}
-use mathlib.Core.List.{List, [], _∷_}
+use mathlib.Core.Bool.{Bool, true, false}
+use mathlib.Core.List.{List, []}
 use mathlib.Core.Logic.{_⊎_, inl, inr}
 use Prim.Native.Nat.{ℕ, zero, suc, _+_, _≤_, _<_}
 use native.Mathlib.Omega.{arith}
 use lib.ListN.{length, getD, set, replicate, length-replicate}
-use Rattle.std.specs.declared.option.Option.{Option}
-use Rattle.std.specs.declared.option.Option.the-variants.{Some, None}
+use Rattle.std.specs.declared.option.Option.the-variants.{Some}
 use Rattle.std.specs.declared.result.Result.{Result}
 use Rattle.std.proofs.shelf.Lists.{length-set, getD-set-same, getD-set-other}
 use Rattle.std.proofs.shelf.Tests.{cases-eq, and-from, eq-eqb, eqb-true}
-use Rattle.base.specs.declared.owner.Kind.the-variants.{File, Folder}
 use Rattle.base.specs.declared.owner.Handle.{Handle}
 use Rattle.device.specs.Model.{Model}
 use Rattle.device.specs.declared.fault.Fault.{Fault}
-use Rattle.layout.specs.Format.{Geometry, Name, Cell, Slot, Entry, entry, entry-of, handle}
+use Rattle.layout.specs.Format.{Geometry, Name, Cell, Slot, entry, entry-of, handle}
 use Rattle.layout.specs.Sizes.{sizes}
 use Rattle.layout.specs.declared.geometry.Geometry.{Geometry as CardGeometry}
 use Rattle.rule.specs.Agree.{Shown, View, seen, slot-at, agrees, good, number, count, cells-in, parent-of, climbs, reached}
-use Rattle.rule.specs.Meaning.{Fits, Sound}
-use Rattle.rule.proofs.Steps.{clash, clash-none, handle-true}
+use Rattle.rule.specs.Meaning.{Fits}
+use Rattle.rule.proofs.Steps.{clash, handle-true}
 use Rattle.rule.proofs.Walks.{climbs-root, climbs-up, climbs-parts, climbs-within}
-use Rattle.rule.proofs.Means.{fits-at, fits-from, agrees-true, leaf-is, sound-listed, parent-parts, parent-from, up-below}
-use Rattle.walk.specs.Still.{Still, Says, shows}
+use Rattle.rule.proofs.Means.{fits-at, agrees-true, leaf-is, sound-listed, parent-parts, parent-from, up-below}
+use Rattle.walk.specs.Still.{Still, shows}
 use Rattle.walk.proofs.Stills.{says-then}
-use Rattle.tours.specs.Marks.{Marked, MarksReached, Chain, top, below, ticks, Entered, Sane, Grew, Onward, Worked, ForChild, CellDone, CellChained, CellsDone, CellsChained, LeafDone, LeavesDone, Done, Open}
-use Rattle.tours.proofs.Rows.{no-kind}
+use Rattle.tours.specs.Marks.{Marked, MarksReached, Chain, top, below, Entered, Sane, Grew, Onward, Worked, CellDone, CellsDone, CellsChained, LeafDone, LeavesDone, Done, Open}
 use Rattle.tours.proofs.Ticks.{ticks-few, ticks-room, ticks-set, ticks-none}
 
 -- ---- one slot more
@@ -168,9 +165,6 @@ module _ (g : Geometry) (v : View) (f : Handle) where
 -- ---- the folder in a slot
 
 module _ (g : Geometry) (v : View) (s : ℕ) where
-  pub opened : (r : Slot) → slot-at g v s ≡ Some r → r .kind ≡ Folder → Chain g v s → Open g v (handle s (r .identity)) r
-  opened r e d way = record { fits = fits-from g v (handle s (r .identity)) r e refl; kind = d; chained = way }
-
   slot-of : (r : Slot) → slot-at g v s ≡ Some r → (f : Handle) (q : Slot) → f .slot .0 ≡ s → Fits g v f q → q ≡ r
   slot-of r e f q fs fit = let a = fits-at g v f q fit in let b = ap (slot-at g v) fs in (cc)
 
@@ -181,14 +175,6 @@ module _ (g : Geometry) (v : View) (s : ℕ) where
       let l = sound-listed g v f r k p n c fit snd in
       let own : f ≡ handle s (r .identity) = handle-true f (handle s (r .identity)) (and-from _ _ (eq-eqb (f .slot .0) s fs) (eq-eqb (f .identity .0) (r .identity) (sym (fit .same)))) in
       subst (λ (h : Handle). LeavesDone g v h r (count r) ms) (sym own) done k (l .below) (l .fine) p (l .inside) n c (l .here) (sym (ap (agrees g v f) (l .here)) ∙ l .agreed)
-
-  pub done-file : (r : Slot) (ms : List Bool) → slot-at g v s ≡ Some r → r .kind ≡ File → Done g v s ms
-  done-file r ms e d f c k p n fs snd =
-      let q = slot-of r e f (snd .slot) fs (snd .fits) in
-      no-kind (sym d ∙ ap (λ (x : Slot). x .kind) (sym q) ∙ snd .kind)
-
-  pub done-none : (ms : List Bool) → slot-at g v s ≡ None → Done g v s ms
-  done-none ms e f c k p n fs snd = clash-none (sym e ∙ ap (slot-at g v) (sym fs) ∙ fits-at g v f (snd .slot) (snd .fits))
 
 -- ---- the start and the end of the work
 

@@ -2,24 +2,24 @@
 use mathlib.Core.Path.{_≡_, refl, sym, ap, subst, _∙_}
 use mathlib.Core.Bool.{Bool, true, false, cond, _&&_}
 use mathlib.Core.List.{List, [], _∷_, _++_, map}
-use mathlib.Core.Logic.{_⊎_, inl, inr}
+use mathlib.Core.Logic.{inl, inr}
 use Prim.Native.Nat.{ℕ, zero, suc, _+_, _≤_, _<_}
 use native.Mathlib.Numerals.{add-one}
 use native.Mathlib.Omega.{arith}
 use lib.Dec.{eqb, ltb}
-use lib.ListN.{length, getD, take, drop}
+use lib.ListN.{length, getD, take}
 use Rattle.std.specs.declared.option.Option.{Option}
 use Rattle.std.specs.declared.option.Option.the-variants.{Some, None}
-use Rattle.std.proofs.shelf.Lists.{append-assoc, append-nil, map-append, take-more, take-all, length-map}
+use Rattle.std.proofs.shelf.Lists.{append-assoc, append-nil, map-append, take-more, take-all}
 use Rattle.std.proofs.shelf.Tests.{cond-true, cond-false, and-parts}
 use Rattle.base.specs.declared.owner.Kind.the-variants.{File, Folder}
 use Rattle.base.specs.declared.owner.Handle.{Handle}
-use Rattle.layout.specs.Format.{Geometry, Name, Cell, Slot, Content, Entry, entry, no-entry, entry-of, back}
+use Rattle.layout.specs.Format.{Geometry, Name, Cell, Slot, Entry, entry, entry-of, back}
 use Rattle.layout.specs.Head.{cells}
 use Rattle.rule.specs.Agree.{View, Place, those, from, some-is, given, slot-at, same-handle, agrees, sound, good, names, number, count, cells-in, places-of, places-over, places}
 use Rattle.rule.specs.Meaning.{Body}
-use Rattle.rule.specs.Reading.{EntryLine, entry-line}
-use Rattle.rule.proofs.Steps.{clash, clash-none, names-true}
+use Rattle.rule.specs.Reading.{entry-line}
+use Rattle.rule.proofs.Steps.{clash-none, names-true}
 use Rattle.listing.specs.Lines as lines
 use Rattle.listing.specs.declared.line.EntryLine.{EntryLine as EntryRow}
 use Rattle.walk.specs.Copies.{child-slot, Holds}

@@ -1,13 +1,12 @@
 // The leaves that are not good of the slots that are marked, as lines.
 ghost use mathlib.Core.Bool.{cond};
-ghost use mathlib.Core.List.{[], _∷_, map};
+ghost use mathlib.Core.List.{[], _∷_};
 ghost use Rattle.layout.specs.Sizes.{sizes};
 ghost use Rattle.listing.specs.Lines.{Sofar};
-ghost use Rattle.rule.specs.Agree.{slot-at};
 ghost use Rattle.walk.specs.Still.{Says, shows};
 ghost use Rattle.walk.specs.Copies.{copied};
 ghost use Rattle.tours.specs.Lists.{Adds, Lists};
-ghost use Rattle.tours.specs.Damage.{damage-rows, slot-rows, leaf-rows, leaves-rows, marked-rows};
+ghost use Rattle.tours.specs.Damage.{damage-rows, slot-rows, leaf-rows, leaves-rows};
 use base::number::LeafNo;
 use base::number::SlotNo;
 use base::owner::Handle;

@@ -1,4 +1,3 @@
-use Rattle.layout.specs.Sizes.{sizes}
 use Rattle.rule.specs.Agree.{from}
 use Rattle.walk.specs.Copies.{copied}
 use Rattle.walk.specs.Still.{Still, shows}

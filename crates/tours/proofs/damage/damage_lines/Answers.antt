@@ -9,7 +9,7 @@ use Rattle.rule.specs.Agree.{Shown, seen, from}
 use Rattle.walk.proofs.Stills.{still-then}
 use Rattle.listing.specs.Lines.{Sofar}
 use Rattle.tours.specs.Damage.{slot-rows, marked-rows}
-use Rattle.tours.proofs.Adding.{adds-is, adds-more, adds-all}
+use Rattle.tours.proofs.Adding.{adds-more, adds-all}
 use Rattle.tours.proofs.Damages.{slots-more}
 use Rattle.tours.proofs.damage.damage_lines.Needs as need
 

@@ -1,20 +1,17 @@
 use native.Mathlib.Omega.{arith}
-use mathlib.Core.Path.{_≡_, sym, ap, _∙_, subst}
+use mathlib.Core.Path.{_≡_, sym, subst}
 use mathlib.Core.List.{List}
 use Prim.Native.Nat.{ℕ, _*_, _^_, _<_}
-use lib.ListN.{length}
-use Rattle.base.specs.declared.owner.Kind.the-variants.{Folder}
 use Rattle.layout.specs.Sizes.{sizes}
 use Rattle.layout.proofs.Numbers.{length-numbers}
 use Rattle.rule.specs.Agree.{Shown, seen, Place, places-over, from, count}
 use Rattle.walk.specs.Copies.{copied}
-use Rattle.walk.specs.Still.{shows}
 use Rattle.walk.proofs.Stills.{still, still-then}
 use Rattle.listing.specs.Lines.{Sofar}
 use Rattle.listing.proofs.Listing.{none-yet}
 use Rattle.walk.specs.Finding.{leaf-places}
 use Rattle.tours.specs.Lists.{entry-rows}
-use Rattle.tours.proofs.Adding.{adds-is, adds-none, adds-more, adds-all}
+use Rattle.tours.proofs.Adding.{adds-more, adds-all}
 use Rattle.tours.proofs.Rows.{leaves-more, file-none}
 use Rattle.tours.proofs.list.list_entries.Needs as need
 

@@ -1,9 +1,6 @@
 use borrow.Author.Needs.{needs}
-use mathlib.Core.Path.{_≡_, refl, sym, subst}
-use mathlib.Core.List.{List}
-use mathlib.Core.Bool.{Bool}
+use mathlib.Core.Path.{_≡_, sym, subst}
 use lib.ListN.{length, take}
-use Rattle.layout.specs.Format.{Cell}
 use Rattle.layout.specs.Head.{cells}
 use Rattle.layout.specs.Sizes.{sizes}
 use Rattle.layout.proofs.Cells.{length-cells}
