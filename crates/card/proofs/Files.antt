@@ -109,8 +109,9 @@ filled l z used x len u e =
   where
     go : take (used - 0) (l .bytes) ≡ front l
     go = elim (cases-lt (l .used) 496) [
-        inl low ↦ ap (λ (i : ℕ). take i (l .bytes)) (omega (arith, u, low))
-      | inr high ↦ ap (λ (i : ℕ). take i (l .bytes)) (omega (arith, u, high, len)) ∙ take-all (length (l .bytes)) (l .bytes) (omega arith) ∙ sym (take-all (l .used) (l .bytes) (omega (arith, len, high))) ]
+      | inl low ↦ ap (λ (i : ℕ). take i (l .bytes)) (omega (arith, u, low))
+      | inr high ↦ ap (λ (i : ℕ). take i (l .bytes)) (omega (arith, u, high, len)) ∙ take-all (length (l .bytes)) (l .bytes) (omega arith) ∙ sym (take-all (l .used) (l .bytes) (omega (arith, len, high)))
+    ]
 
 pub fills-exit : (r : Result ℕ Refusal) (z : List ℕ) (d : Refusal) → r ≡ Err d → Fills (Err d) r z z
 fills-exit r z d p = subst (λ (x : Result ℕ Refusal). Fills (Err d) x z z) (sym p) (refl, refl)

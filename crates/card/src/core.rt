@@ -15,12 +15,12 @@ ghost use Rattle.walk.specs.Copies.{front};
 ghost use Rattle.rule.specs.Check.{Answer};
 ghost use Rattle.rule.specs.Reading as reading;
 ghost use Rattle.card.specs.Calls.{CoreReads, Fills};
+use crate::file::read_file;
 use base::number::LeafNo;
 use base::owner::Handle;
 use base::owner::Kind;
 use base::refusal::PathRefusal;
 use base::refusal::Refusal;
-use crate::file::read_file;
 use device::Device;
 use layout::geometry::Geometry;
 use walk::handle::find_child;
@@ -95,7 +95,12 @@ impl<D: Device> Core<D> {
     }
 
     // A leaf of a file, into the front of a buffer of at least 496 bytes; answers how many.
-    pub fn read(&mut self, handle: &Handle, leaf: LeafNo, buffer: &mut [u8]) -> Result<usize, Refusal>
+    pub fn read(
+        &mut self,
+        handle: &Handle,
+        leaf: LeafNo,
+        buffer: &mut [u8],
+    ) -> Result<usize, Refusal>
         ensures reads { λ r. ⌜ (Fitting (now (self .entry) .ready) (D·Device .model (now (self .entry) .device)) → (a : Answer (List ℕ)) × CoreReads PowerGone (reading.read (now (handle .entry)) (leaf .0) (length (now (buffer .entry)))) (now (self .entry) .ready) (D·Device .model (now (self .entry) .device)) a (now (self .exit) .ready) (D·Device .model (now (self .exit) .device)) × Fills a r (now (buffer .entry)) (now (buffer .exit))) ⌝ }
     {
         if buffer.len() < 496 {

@@ -17,7 +17,12 @@ use walk::leaf::LeafCopy;
 use walk::leaf::read_leaf;
 
 // A leaf of a file: its slot and its body are read, nothing else.
-pub fn read_file<D: Device>(device: &mut D, g: &Geometry, handle: &Handle, leaf: LeafNo) -> Result<LeafCopy, Refusal>
+pub fn read_file<D: Device>(
+    device: &mut D,
+    g: &Geometry,
+    handle: &Handle,
+    leaf: LeafNo,
+) -> Result<LeafCopy, Refusal>
     ensures { λ r. ⌜ Gives (now (g .entry)) r (leaf-bytes (sizes (now (g .entry))) (shows (now (g .entry)) (model (now (device .entry)))) (now (handle .entry)) (leaf .0)) (λ l. leaf-bytes (sizes (now (g .entry))) (shows (now (g .entry)) (model (now (device .entry)))) (now (handle .entry)) (leaf .0) ≡ Ok (front l)) (model (now (device .entry))) (model (now (device .exit))) ⌝ }
 {
     let slot = read_kind(device, g, Kind::File, handle)?;

@@ -10,14 +10,14 @@ ghost use lib.ListN.{length};
 ghost use Rattle.rule.specs.Check.{Answer};
 ghost use Rattle.card.specs.Calls.{Fills};
 ghost use Rattle.card.specs.Views.{Fitting, status-view, opened-state};
+use crate::core::Core;
+use crate::core::Status;
+use crate::open::open_card;
 use base::number::Identity;
 use base::number::LeafNo;
 use base::owner::Handle;
 use base::refusal::PathRefusal;
 use base::refusal::Refusal;
-use crate::core::Core;
-use crate::core::Status;
-use crate::open::open_card;
 use device::Device;
 
 // `next` is the block that the survey examines next, `highest` the highest identity that it has seen so far.
@@ -71,7 +71,12 @@ impl<D: Device> Opened<D> {
 
     // A leaf of a file, into the front of a buffer of at least 496 bytes; answers how many. The rest of the buffer stays
     // as it is, and any refusal leaves all of it so.
-    pub fn read(&mut self, handle: &Handle, leaf: LeafNo, buffer: &mut [u8]) -> Result<usize, Refusal>
+    pub fn read(
+        &mut self,
+        handle: &Handle,
+        leaf: LeafNo,
+        buffer: &mut [u8],
+    ) -> Result<usize, Refusal>
         ensures reads { λ r. ⌜ (Fitting (now (self .entry) .core .ready) (D·Device .model (now (self .entry) .core .device)) → (a : Answer (List ℕ)) × Reads PowerGone (reading.read (now (handle .entry)) (leaf .0) (length (now (buffer .entry)))) (opened-state (now (self .entry)) (D·Device .model (now (self .entry) .core .device))) a (opened-state (now (self .exit)) (D·Device .model (now (self .exit) .core .device))) × Fills a r (now (buffer .entry)) (now (buffer .exit))) ⌝ }
         ensures fitting { λ _. ⌜ (Fitting (now (self .entry) .core .ready) (D·Device .model (now (self .entry) .core .device)) → Fitting (now (self .exit) .core .ready) (D·Device .model (now (self .exit) .core .device))) ⌝ }
     {

@@ -16,22 +16,28 @@ use Rattle.card.proofs.Cores.{core-exit, core-refused, status-unready, status-
 use Rattle.card.proofs.core.Core.status.Needs as need
 
 pub returns-in-Break-g : need.returns-in-Break-g
-returns-in-Break-g g c = record { reads = λ fit.
-    let p = err-from-errBy (c .from-residual .result) (c .from-residual .ensures .1) in
-    core-exit (status (c .args .handle .now)) (c .args .self .now .ready) (g .D·Device .model (c .args .self .now .device)) _ _ _ (ap (mapped status-view (λ e. e)) (p .1)) (p .2)
-    (status-unready (c .args .handle .now) _ _ _ (ap ready-view (c .in-Break-g .was tt))) }
+returns-in-Break-g g c = record {
+  reads = λ fit.
+      let p = err-from-errBy (c .from-residual .result) (c .from-residual .ensures .1) in
+      core-exit (status (c .args .handle .now)) (c .args .self .now .ready) (g .D·Device .model (c .args .self .now .device)) _ _ _ (ap (mapped status-view (λ e. e)) (p .1)) (p .2)
+      (status-unready (c .args .handle .now) _ _ _ (ap ready-view (c .in-Break-g .was tt)));
+}
 
 pub returns-in-Ok : need.returns-in-Ok
-returns-in-Ok g c = record { reads = λ fit.
-    let e = c .in-Ok .ensures tt in
-    let slot = c .in-Ok .slot in
-    inl (e .0, sym (status-of (c .args .handle .now) _ _ _ _ (ap ready-view (c .in-Continue-g .was tt)) (e .1) ∙ ap (λ (n : ℕ). Ok (record { kind = slot .kind; count = n; parent = slot .parent })) (length-numbers (slot .count) (slot .numbers))), refl) }
+returns-in-Ok g c = record {
+  reads = λ fit.
+      let e = c .in-Ok .ensures tt in
+      let slot = c .in-Ok .slot in
+      inl (e .0, sym (status-of (c .args .handle .now) _ _ _ _ (ap ready-view (c .in-Continue-g .was tt)) (e .1) ∙ ap (λ (n : ℕ). Ok (record { kind = slot .kind; count = n; parent = slot .parent })) (length-numbers (slot .count) (slot .numbers))), refl);
+}
 
 pub returns-in-Err : need.returns-in-Err
-returns-in-Err g c = record { reads = λ fit.
-    let e = c .refuse .ensures in
-    let m = g .D·Device .model (c .args .self .now .device) in
-    core-refused (status (c .args .handle .now)) (c .in-Continue-g .g) _ (c .args .self .now .ready) m (c .in-Continue-g .was tt) _ (g .D·Device .model (c .read-handle .last .device)) _ _ _ fit
-    (λ q. status-refused (c .args .handle .now) (m .shown) _ _ _ (ap ready-view (c .in-Continue-g .was tt)) q)
-    (fits-quiet (sizes (c .in-Continue-g .g)) (shows (c .in-Continue-g .g) m) (c .args .handle .now))
-    (e .0) (ap (g .D·Device .model) (e .1)) (e .2) (c .in-Err .ensures tt) }
+returns-in-Err g c = record {
+  reads = λ fit.
+      let e = c .refuse .ensures in
+      let m = g .D·Device .model (c .args .self .now .device) in
+      core-refused (status (c .args .handle .now)) (c .in-Continue-g .g) _ (c .args .self .now .ready) m (c .in-Continue-g .was tt) _ (g .D·Device .model (c .read-handle .last .device)) _ _ _ fit
+      (λ q. status-refused (c .args .handle .now) (m .shown) _ _ _ (ap ready-view (c .in-Continue-g .was tt)) q)
+      (fits-quiet (sizes (c .in-Continue-g .g)) (shows (c .in-Continue-g .g) m) (c .args .handle .now))
+      (e .0) (ap (g .D·Device .model) (e .1)) (e .2) (c .in-Err .ensures tt);
+}
