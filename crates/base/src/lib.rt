@@ -1,4 +1,6 @@
 // The words that every layer uses: numbers of four kinds, handles, back lines and refusals.
+#![tactic(auto)]
+
 pub mod number;
 pub mod owner;
 pub mod refusal;

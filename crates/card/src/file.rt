@@ -20,7 +20,7 @@ pub fn read_file<D: Device>(
     handle: &Handle,
     leaf: LeafNo,
 ) -> Result<LeafCopy, Refusal>
-    ensures { Gives g.now result (leaf_bytes (sizes g.now) (shows g.now (model device.old)) handle.now leaf.0) (λ l. leaf_bytes (sizes g.now) (shows g.now (model device.old)) handle.now leaf.0 ≡ Ok (front l)) (model device.old) (model device.new) }
+    ensures { Gives g.now result (leaf_bytes (sizes g.now) (shows g.now (D.Device.model device.old)) handle.now leaf.0) (λ l. leaf_bytes (sizes g.now) (shows g.now (D.Device.model device.old)) handle.now leaf.0 ≡ Ok (front l)) (D.Device.model device.old) (D.Device.model device.new) }
 {
     let slot = read_kind(device, g, Kind::File, handle)?;
     if leaf.0 >= slot.count {

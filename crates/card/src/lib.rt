@@ -1,4 +1,6 @@
 // A card on a device: what can be read of it.
+#![tactic(auto)]
+
 pub mod core;
 pub mod file;
 pub mod lists;

@@ -35,7 +35,7 @@ fn is_root(slot: &SlotCopy) -> bool
 
 // The device has to be large enough, and the root good.
 fn open_sized<D: Device>(device: &mut D, g: Geometry) -> Result<Geometry, Refusal>
-    ensures { Opening result (sized (model device.old).count (model device.old).shown (sizes g)) (model device.old) (model device.new) }
+    ensures { Opening result (sized (D.Device.model device.old).count (D.Device.model device.old).shown (sizes g)) (D.Device.model device.old) (D.Device.model device.new) }
 {
     if device.count() < g.blocks {
         return Err(Refusal::SmallDevice(g.blocks));
@@ -55,7 +55,7 @@ fn open_sized<D: Device>(device: &mut D, g: Geometry) -> Result<Geometry, Refusa
 
 // The geometry of the card on a device, or the refusal that answers each call.
 pub fn open_card<D: Device>(device: &mut D) -> Result<Geometry, Refusal>
-    ensures { Opening result (opening (model device.old).count (model device.old).shown) (model device.old) (model device.new) }
+    ensures { Opening result (opening (D.Device.model device.old).count (D.Device.model device.old).shown) (D.Device.model device.old) (D.Device.model device.new) }
 {
     if device.count() == 0 {
         return Err(Refusal::BadCard(BlockNo(0)));

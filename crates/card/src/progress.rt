@@ -27,7 +27,7 @@ pub(crate) fn examine_next<D: Device>(
     progress: &mut Progress,
 ) -> Result<(), Fault>
     requires { progress.old.next < g.now.blocks }
-    ensures examined { Learned g.now (model device.old) progress.old → Says g.now result (λ _. Learned g.now (model device.old) progress.new × (so_far (Ok (sizes g.now)) progress.new ≡ examined (sizes g.now) (model device.old).shown (so_far (Ok (sizes g.now)) progress.old))) (model device.old) (model device.new) }
+    ensures examined { Learned g.now (D.Device.model device.old) progress.old → Says g.now result (λ _. Learned g.now (D.Device.model device.old) progress.new × (so_far (Ok (sizes g.now)) progress.new ≡ examined (sizes g.now) (D.Device.model device.old).shown (so_far (Ok (sizes g.now)) progress.old))) (D.Device.model device.old) (D.Device.model device.new) }
     ensures kept { MatchResult result (λ _. progress.new.next ≡ progress.old.next + 1) (λ _. progress.new ≡ progress.old) }
 {
     let at = BlockNo(progress.next);
@@ -45,7 +45,7 @@ pub(crate) fn examine_rest<D: Device>(
     g: &Geometry,
     progress: &mut Progress,
 ) -> Result<(), Fault>
-    ensures { Learned g.now (model device.old) progress.old → Says g.now result (λ _. Learned g.now (model device.old) progress.new × (progress.new.next ≡ g.now.blocks) × (surveyed (so_far (Ok (sizes g.now)) progress.new) (model device.old).shown ≡ surveyed (so_far (Ok (sizes g.now)) progress.old) (model device.old).shown)) (model device.old) (model device.new) }
+    ensures { Learned g.now (D.Device.model device.old) progress.old → Says g.now result (λ _. Learned g.now (D.Device.model device.old) progress.new × (progress.new.next ≡ g.now.blocks) × (surveyed (so_far (Ok (sizes g.now)) progress.new) (D.Device.model device.old).shown ≡ surveyed (so_far (Ok (sizes g.now)) progress.old) (D.Device.model device.old).shown)) (D.Device.model device.old) (D.Device.model device.new) }
 {
     while progress.next < g.blocks {
         examine_next(device, g, progress)?;

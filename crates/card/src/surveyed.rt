@@ -56,7 +56,7 @@ pub struct Space {
 
 // Writes the blocks of a plan.
 fn write_plan<D: Device>(device: &mut D, plan: &Plan) -> Result<(), Refusal>
-    ensures { plan.now.len ≤ 3 → first_outside (model device.old).count (puts_in plan.now) ≡ None → Puts (puts_in plan.now) (model device.old) result (model device.new) }
+    ensures { plan.now.len ≤ 3 → first_outside (D.Device.model device.old).count (puts_in plan.now) ≡ None → Puts (puts_in plan.now) (D.Device.model device.old) result (D.Device.model device.new) }
 {
     write_all(device, &plan.puts[0..plan.len.min(3)])?;
     Ok(())

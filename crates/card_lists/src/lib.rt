@@ -1,4 +1,6 @@
 // The lists of a card: a folder's entries, and damage. Lines that power gone leaves are all zero.
+#![tactic(auto)]
+
 ghost use Rattle.std.specs.Prelude.{◌≡◌, length, replicate, if◌then◌else◌, Ok};
 ghost use Rattle.layout.specs.Sizes.{sizes};
 ghost use Rattle.rule.specs.Reading.{list, damage};
@@ -42,7 +44,7 @@ fn fill_entries<D: Device>(
     folder: Handle,
     lines: &mut [EntryLine],
 ) -> Result<usize, Refusal>
-    ensures { Fills entry_row g.now (list folder (Ok (sizes g.now)) (model device.old).shown) result (model device.old) (model device.new) lines.old lines.new }
+    ensures { Fills entry_row g.now (list folder (Ok (sizes g.now)) (D.Device.model device.old).shown) result (D.Device.model device.old) (D.Device.model device.new) lines.old lines.new }
 {
     let slot = read_kind(device, g, Kind::Folder, &folder)?;
     let count = list_entries(device, g, folder, &slot, lines)?;
@@ -56,7 +58,7 @@ pub fn list_folder<D: Device>(
     folder: Handle,
     lines: &mut [EntryLine],
 ) -> Result<usize, Refusal>
-    ensures { Lined entry_row zero_entry g.now (list folder (Ok (sizes g.now)) (model device.old).shown) result (model device.old) (model device.new) lines.old lines.new }
+    ensures { Lined entry_row zero_entry g.now (list folder (Ok (sizes g.now)) (D.Device.model device.old).shown) result (D.Device.model device.old) (D.Device.model device.new) lines.old lines.new }
 {
     let answer = fill_entries(device, g, folder, lines);
     zero_if_gone(&answer, lines, NO_ENTRY);
@@ -68,7 +70,7 @@ fn fill_damage<D: Device>(
     g: &Geometry,
     lines: &mut [DamageLine],
 ) -> Result<usize, Refusal>
-    ensures { Fills damage_row g.now (damage (Ok (sizes g.now)) (model device.old).shown) result (model device.old) (model device.new) lines.old lines.new }
+    ensures { Fills damage_row g.now (damage (Ok (sizes g.now)) (D.Device.model device.old).shown) result (D.Device.model device.old) (D.Device.model device.new) lines.old lines.new }
 {
     let marks = mark_reached(device, g)?;
     let count = damage_lines(device, g, &marks, lines)?;
@@ -81,7 +83,7 @@ pub fn list_damage<D: Device>(
     g: &Geometry,
     lines: &mut [DamageLine],
 ) -> Result<usize, Refusal>
-    ensures { Lined damage_row zero_damage g.now (damage (Ok (sizes g.now)) (model device.old).shown) result (model device.old) (model device.new) lines.old lines.new }
+    ensures { Lined damage_row zero_damage g.now (damage (Ok (sizes g.now)) (D.Device.model device.old).shown) result (D.Device.model device.old) (D.Device.model device.new) lines.old lines.new }
 {
     let answer = fill_damage(device, g, lines);
     zero_if_gone(&answer, lines, NO_DAMAGE);
@@ -109,7 +111,7 @@ pub fn list_on<D: Device>(
     folder: Handle,
     lines: &mut [EntryLine],
 ) -> Result<usize, Refusal>
-    ensures { Fitting ready.old (model device.old) → Listing entry_row zero_entry (list folder) ready.old (model device.old) result ready.new (model device.new) lines.old lines.new }
+    ensures { Fitting ready.old (D.Device.model device.old) → Listing entry_row zero_entry (list folder) ready.old (D.Device.model device.old) result ready.new (D.Device.model device.new) lines.old lines.new }
 {
     match *ready {
         Ok(g) => {
@@ -131,7 +133,7 @@ pub fn damage_on<D: Device>(
     ready: &mut Result<Geometry, Refusal>,
     lines: &mut [DamageLine],
 ) -> Result<usize, Refusal>
-    ensures { Fitting ready.old (model device.old) → Listing damage_row zero_damage damage ready.old (model device.old) result ready.new (model device.new) lines.old lines.new }
+    ensures { Fitting ready.old (D.Device.model device.old) → Listing damage_row zero_damage damage ready.old (D.Device.model device.old) result ready.new (D.Device.model device.new) lines.old lines.new }
 {
     match *ready {
         Ok(g) => {

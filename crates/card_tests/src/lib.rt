@@ -1,4 +1,6 @@
 // Examples of the reading calls, run: what they read, and what they make of hostile images.
+#![tactic(auto)]
+
 pub mod calls;
 pub mod counting;
 #[cfg(test)]

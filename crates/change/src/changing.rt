@@ -22,7 +22,7 @@ pub(crate) fn read_changing<D: Device>(
     kind: Kind,
     handle: &Handle,
 ) -> Result<SlotCopy, Refusal>
-    ensures { Tells (sizes g.now) (shows g.now (model device.old)) marks.now → Gives g.now result (changing (sizes g.now) (shows g.now (model device.old)) kind handle.now) (λ s. changing (sizes g.now) (shows g.now (model device.old)) kind handle.now ≡ Ok (copied s)) (model device.old) (model device.new) }
+    ensures { Tells (sizes g.now) (shows g.now (D.Device.model device.old)) marks.now → Gives g.now result (changing (sizes g.now) (shows g.now (D.Device.model device.old)) kind handle.now) (λ s. changing (sizes g.now) (shows g.now (D.Device.model device.old)) kind handle.now ≡ Ok (copied s)) (D.Device.model device.old) (D.Device.model device.new) }
 {
     let slot = read_handle(device, g, handle)?;
     if !marks.is_reached(handle.slot) {

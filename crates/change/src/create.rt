@@ -140,7 +140,7 @@ pub fn plan_create<D: Device>(
     folder: &Handle,
     name: &[u8],
 ) -> Result<CreatePlan, Refusal>
-    ensures { Grounded g.now (model device.old) marks.now → Gives g.now result (created kind folder.now name.now (card_view g.now memory.now) (model device.old).shown) (CreatePlanned g.now (model device.old) memory.now kind folder.now name.now) (model device.old) (model device.new) }
+    ensures { Grounded g.now (D.Device.model device.old) marks.now → Gives g.now result (created kind folder.now name.now (card_view g.now memory.now) (D.Device.model device.old).shown) (CreatePlanned g.now (D.Device.model device.old) memory.now kind folder.now name.now) (D.Device.model device.old) (D.Device.model device.new) }
 {
     check_name(name)?;
     let slot = read_changing(device, g, marks, Kind::Folder, folder)?;

@@ -28,7 +28,7 @@ fn remove_found<D: Device>(
     slot: &SlotCopy,
     spot: &Spot,
 ) -> Result<RemovePlan, Refusal>
-    ensures { (m : Model) (n : Name) → Still m (model device.old) → Removing g.now m marks.now folder.now slot.now n spot.now → Gives g.now result (remove folder.now n (card_view g.now memory.now) m.shown) (RemovePlanned g.now m memory.now folder.now n) m (model device.new) }
+    ensures { (m : Model) (n : Name) → Still m (D.Device.model device.old) → Removing g.now m marks.now folder.now slot.now n spot.now → Gives g.now result (remove folder.now n (card_view g.now memory.now) m.shown) (RemovePlanned g.now m memory.now folder.now n) m (D.Device.model device.new) }
 {
     let child = child_at(g, spot);
     let there = read_slot(device, g, child.slot)?;
@@ -59,7 +59,7 @@ pub fn plan_remove<D: Device>(
     folder: &Handle,
     name: &[u8],
 ) -> Result<RemovePlan, Refusal>
-    ensures { Grounded g.now (model device.old) marks.now → Gives g.now result (remove folder.now name.now (card_view g.now memory.now) (model device.old).shown) (RemovePlanned g.now (model device.old) memory.now folder.now name.now) (model device.old) (model device.new) }
+    ensures { Grounded g.now (D.Device.model device.old) marks.now → Gives g.now result (remove folder.now name.now (card_view g.now memory.now) (D.Device.model device.old).shown) (RemovePlanned g.now (D.Device.model device.old) memory.now folder.now name.now) (D.Device.model device.old) (D.Device.model device.new) }
 {
     check_name(name)?;
     let slot = read_changing(device, g, marks, Kind::Folder, folder)?;

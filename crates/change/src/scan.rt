@@ -162,7 +162,7 @@ fn scan_leaf<D: Device>(
     before: Option<Spot>,
 ) -> Result<Scan, Fault>
     requires { slot.now.kind ≡ Folder }
-    ensures { Says g.now result (LeafScanned (sizes g.now) (shows g.now (model device.old)) marks.now folder.now (copied slot.now) leaf.0 sought name.now before) (model device.old) (model device.new) }
+    ensures { Says g.now result (LeafScanned (sizes g.now) (shows g.now (D.Device.model device.old)) marks.now folder.now (copied slot.now) leaf.0 sought name.now before) (D.Device.model device.old) (D.Device.model device.new) }
 {
     let copy = read_leaf(device, g, *folder, slot, leaf)?;
     match copy {
@@ -188,7 +188,7 @@ pub(crate) fn scan_folder<D: Device>(
     sought: Sought,
     name: &[u8],
 ) -> Result<Scan, Fault>
-    ensures { Says g.now result (Scanned (sizes g.now) (shows g.now (model device.old)) marks.now folder.now (copied slot.now) sought name.now) (model device.old) (model device.new) }
+    ensures { Says g.now result (Scanned (sizes g.now) (shows g.now (D.Device.model device.old)) marks.now folder.now (copied slot.now) sought name.now) (D.Device.model device.old) (D.Device.model device.new) }
 {
     let mut vacant = None;
     match slot.kind {

@@ -54,7 +54,7 @@ pub fn plan_shorten<D: Device>(
     file: &Handle,
     n: LeafNo,
 ) -> Result<ShortenPlan, Refusal>
-    ensures { Grounded g.now (model device.old) marks.now → Gives g.now result (shorten file.now n.0 (card_view g.now memory.now) (model device.old).shown) (ShortenPlanned g.now (model device.old) memory.now file.now n.0) (model device.old) (model device.new) }
+    ensures { Grounded g.now (D.Device.model device.old) marks.now → Gives g.now result (shorten file.now n.0 (card_view g.now memory.now) (D.Device.model device.old).shown) (ShortenPlanned g.now (D.Device.model device.old) memory.now file.now n.0) (D.Device.model device.old) (D.Device.model device.new) }
 {
     let slot = read_changing(device, g, marks, Kind::File, file)?;
     shorten_slot(memory, file, &slot, n)

@@ -104,7 +104,7 @@ pub fn plan_write<D: Device>(
     leaf: LeafNo,
     bytes: &[u8],
 ) -> Result<WritePlan, Refusal>
-    ensures { Grounded g.now (model device.old) marks.now → Gives g.now result (write file.now leaf.0 bytes.now (card_view g.now memory.now) (model device.old).shown) (WritePlanned g.now (model device.old) memory.now file.now leaf.0 bytes.now) (model device.old) (model device.new) }
+    ensures { Grounded g.now (D.Device.model device.old) marks.now → Gives g.now result (write file.now leaf.0 bytes.now (card_view g.now memory.now) (D.Device.model device.old).shown) (WritePlanned g.now (D.Device.model device.old) memory.now file.now leaf.0 bytes.now) (D.Device.model device.old) (D.Device.model device.new) }
 {
     if bytes.len() > 496 {
         return Err(Refusal::BadLength(bytes.len()));

@@ -21,8 +21,8 @@ fn outside(count: u16, puts: &[Put]) -> Option<BlockNo>
 
 // Writes the blocks in their order, or none where the device lacks one of them.
 pub fn write_all<D: Device>(device: &mut D, puts: &[Put]) -> Result<(), Fault>
-    ensures answer { WriteAll puts.now result (model device.old) (model device.new) }
-    ensures cut { CutLeaves puts.now (model device.old) (model device.new) }
+    ensures answer { WriteAll puts.now result (D.Device.model device.old) (D.Device.model device.new) }
+    ensures cut { CutLeaves puts.now (D.Device.model device.old) (D.Device.model device.new) }
 {
     if let Some(at) = outside(device.count(), puts) {
         return Err(Fault::NoSuchBlock(at));

@@ -2,6 +2,8 @@
 //
 // What a device means is said by a ghost model: how many blocks it has, whether its power is on, what each block shows,
 // and for each block the contents of which it may show one after a power cut. Code above is proved once, for every device.
+#![tactic(auto)]
+
 ghost use Rattle.std.specs.Prelude.{◌≡◌};
 ghost use Rattle.device.specs.Model.{Model};
 ghost use Rattle.device.specs.Answers.{Read, Write, Sync};

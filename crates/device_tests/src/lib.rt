@@ -1,4 +1,6 @@
 // Examples of the cards, run.
+#![tactic(auto)]
+
 use base::number::BlockNo;
 use buffered::buffered::Buffered;
 use device::Device;

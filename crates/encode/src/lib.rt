@@ -1,4 +1,6 @@
 // The bytes that are written: blocks, and the cells of a folder's leaf.
+#![tactic(auto)]
+
 pub mod block;
 mod bytes;
 pub mod entry;

@@ -1,4 +1,6 @@
 // Formatting: a new card on a device.
+#![tactic(auto)]
+
 ghost use Rattle.std.specs.Prelude.{◌≡◌, ◌≤◌};
 ghost use Rattle.device.specs.Effect.{WriteAll};
 ghost use Rattle.layout.specs.Format.{encode};
@@ -35,8 +37,8 @@ fn new_block(g: &Geometry, at: u16) -> [u8; 512]
 
 // Writes the blocks of a new card, in the order of their numbers.
 fn write_new<D: Device>(device: &mut D, g: &Geometry) -> Result<(), Fault>
-    requires { g.now.blocks ≤ (model device.old).count }
-    ensures { WriteAll (new_card (sizes g.now)) result (model device.old) (model device.new) }
+    requires { g.now.blocks ≤ (D.Device.model device.old).count }
+    ensures { WriteAll (new_card (sizes g.now)) result (D.Device.model device.old) (D.Device.model device.new) }
 {
     for at in 0..g.blocks {
         device.write(BlockNo(at), &new_block(g, at))?;
@@ -46,7 +48,7 @@ fn write_new<D: Device>(device: &mut D, g: &Geometry) -> Result<(), Fault>
 
 // Makes a new card of so many blocks and slots: writes all of its blocks, then syncs. Blocks past the card are not touched.
 pub fn format<D: Device>(device: &mut D, blocks: u16, slots: u16) -> Result<(), Refusal>
-    ensures { Formats blocks slots (model device.old) result (model device.new) }
+    ensures { Formats blocks slots (D.Device.model device.old) result (D.Device.model device.new) }
 {
     let Some(g) = Geometry::new(blocks, slots) else {
         return Err(Refusal::BadLimits(blocks));

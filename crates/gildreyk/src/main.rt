@@ -1,4 +1,6 @@
 // The shop's command over card images.
+#![tactic(auto)]
+
 use anyhow::anyhow;
 use std::{env, fs};
 

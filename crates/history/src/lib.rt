@@ -1,5 +1,7 @@
 // The laws of whole histories: definitions in specs/, theorems on the functions below.
 // A function here computes nothing: what its contract says is proved whenever the crate is.
+#![tactic(auto)]
+
 ghost use Rattle.history.specs.Laws.{ReadsWhatWasWritten, FindsWhatWasMade, PathsLeadToWhatWasMade, SettledFilesStay, FormattedCardsOpen, SurveyedCardsKeepTrue};
 ghost use Rattle.history.specs.Counts.{CallsCount};
 ghost use Rattle.history.specs.Example.{ItHappens};

@@ -1,4 +1,6 @@
 // The card's format: geometry, regions, blocks, owners.
+#![tactic(auto)]
+
 pub mod block;
 pub mod geometry;
 pub mod number;

@@ -1,4 +1,6 @@
 // Blocks, entries and names at every edge of their ranges, and encoders against bytes written out.
+#![tactic(auto)]
+
 #[cfg(test)]
 mod blocks;
 #[cfg(test)]

@@ -1,4 +1,6 @@
 // What a surveyed card keeps in memory of its blocks: of each slot whether it is reached, of each body whether it is held.
+#![tactic(auto)]
+
 ghost use Rattle.marks.specs.Laws.{MarksTell};
 
 pub mod mark;

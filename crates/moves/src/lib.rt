@@ -1,5 +1,7 @@
 // How the marks of a surveyed card move under its changing calls: definitions in specs/, theorems on the functions below.
 // A function here computes nothing: what its contract says is proved whenever the crate is.
+#![tactic(auto)]
+
 ghost use Rattle.moves.specs.Tied.{TiedStarts, CreateStaysTied, WriteStaysTied, ShortenStaysTied, RemoveStaysTied, FormatTies};
 ghost use Rattle.moves.specs.Written.{WrittenReadsBack};
 ghost use Rattle.moves.specs.Moves.{MarksServe, CreateMoves, WriteMoves, ShortenMoves, RemoveMoves, FormatMoves};

@@ -1,4 +1,5 @@
 // Pulls the plug on a stack of cards, and shows what became of each block.
+#![tactic(auto)]
 
 mod blocks;
 mod stack;

@@ -1,4 +1,6 @@
 // Devices whose power can be cut by the program that drives them.
+#![tactic(auto)]
+
 ghost use Rattle.device.specs.Model.{Cut};
 
 use device::Device;

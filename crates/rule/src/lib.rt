@@ -1,5 +1,7 @@
 // What every call of a card means: definitions in specs/, with worked cases and theorems on the functions below.
 // A function here computes nothing: what its contract says is proved whenever the crate is.
+#![tactic(auto)]
+
 ghost use Rattle.rule.specs.Meaning.{FoundIsFound, GoodIsGood, ReachedIsReached, HeldIsHeld, FreeSlotIsNext, FreeBodyIsNext, NoSlotFree, NoBodyFree};
 ghost use Rattle.rule.specs.Readings.{OpeningMeans, StepsAgree, SurveyCovers, CursorsStart, CreateKeepsRange, WriteKeepsRange, FindMeans, PathMeans, StatusMeans, ReadMeans, ListMeans, DamageMeans};
 ghost use Rattle.rule.specs.Cases.{CasesHold};

@@ -27,7 +27,7 @@ fn check_leaf<D: Device>(
     lines: &mut [DamageLine],
     count: usize,
 ) -> Result<usize, Fault>
-    ensures { Lists g.now result 1 (leaf_rows (shows g.now (model device.old)) owner (copied slot.now) (leaf.0 ∷ [])) (model device.old) (model device.new) count lines.old lines.new }
+    ensures { Lists g.now result 1 (leaf_rows (shows g.now (D.Device.model device.old)) owner (copied slot.now) (leaf.0 ∷ [])) (D.Device.model device.old) (D.Device.model device.new) count lines.old lines.new }
 {
     let copy = read_leaf(device, g, owner, slot, leaf)?;
     match copy {
@@ -52,7 +52,7 @@ fn check_leaves<D: Device>(
     lines: &mut [DamageLine],
     mut count: usize,
 ) -> Result<usize, Fault>
-    ensures { Lists g.now result 65535 (leaves_rows (shows g.now (model device.old)) owner (copied slot.now)) (model device.old) (model device.new) count lines.old lines.new }
+    ensures { Lists g.now result 65535 (leaves_rows (shows g.now (D.Device.model device.old)) owner (copied slot.now)) (D.Device.model device.old) (D.Device.model device.new) count lines.old lines.new }
 {
     for k in 0..slot.count {
         count = check_leaf(device, g, owner, slot, LeafNo(k), lines, count)?;
@@ -68,7 +68,7 @@ fn check_slot<D: Device>(
     lines: &mut [DamageLine],
     count: usize,
 ) -> Result<usize, Fault>
-    ensures { Lists g.now result 65535 (slot_rows (sizes g.now) (shows g.now (model device.old)) at.0) (model device.old) (model device.new) count lines.old lines.new }
+    ensures { Lists g.now result 65535 (slot_rows (sizes g.now) (shows g.now (D.Device.model device.old)) at.0) (D.Device.model device.old) (D.Device.model device.new) count lines.old lines.new }
 {
     let slot = read_slot(device, g, at)?;
     match slot {
@@ -92,7 +92,7 @@ fn check_marked<D: Device>(
     lines: &mut [DamageLine],
     count: usize,
 ) -> Result<usize, Fault>
-    ensures { Lists g.now result 65535 (if marked then slot_rows (sizes g.now) (shows g.now (model device.old)) at.0 else []) (model device.old) (model device.new) count lines.old lines.new }
+    ensures { Lists g.now result 65535 (if marked then slot_rows (sizes g.now) (shows g.now (D.Device.model device.old)) at.0 else []) (D.Device.model device.old) (D.Device.model device.new) count lines.old lines.new }
 {
     if marked {
         return check_slot(device, g, at, lines, count);
@@ -107,7 +107,7 @@ pub fn damage_lines<D: Device>(
     marks: &[bool; 256],
     lines: &mut [DamageLine],
 ) -> Result<usize, Fault>
-    ensures { Says g.now result (λ n. Sofar lines.old (damage_rows (sizes g.now) (shows g.now (model device.old)) marks.now) n lines.new) (model device.old) (model device.new) }
+    ensures { Says g.now result (λ n. Sofar lines.old (damage_rows (sizes g.now) (shows g.now (D.Device.model device.old)) marks.now) n lines.new) (D.Device.model device.old) (D.Device.model device.new) }
 {
     let mut count = 0;
     for s in 0..g.slots {

@@ -42,7 +42,7 @@ fn list_cell<D: Device>(
     count: usize,
 ) -> Result<usize, Fault>
     requires { length bytes.now ≡ 32 }
-    ensures { Lists g.now result 1 (cell_rows (sizes g.now) (shows g.now (model device.old)) folder.now (bytes.now ∷ [])) (model device.old) (model device.new) count lines.old lines.new }
+    ensures { Lists g.now result 1 (cell_rows (sizes g.now) (shows g.now (D.Device.model device.old)) folder.now (bytes.now ∷ [])) (D.Device.model device.old) (D.Device.model device.new) count lines.old lines.new }
 {
     match parse_cell(g, bytes) {
         Cell::Used(e) => {
@@ -68,7 +68,7 @@ fn list_place<D: Device>(
     count: usize,
 ) -> Result<usize, Fault>
     requires { (length payload.now ≡ 480) × (place < 15) }
-    ensures { Lists g.now result 1 (cell_rows (sizes g.now) (shows g.now (model device.old)) folder.now (slice_index_or (cells payload.now) place [] ∷ [])) (model device.old) (model device.new) count lines.old lines.new }
+    ensures { Lists g.now result 1 (cell_rows (sizes g.now) (shows g.now (D.Device.model device.old)) folder.now (slice_index_or (cells payload.now) place [] ∷ [])) (D.Device.model device.old) (D.Device.model device.new) count lines.old lines.new }
 {
     match cell_bytes(payload, place) {
         Some(bytes) => list_cell(device, g, folder, bytes, lines, count),
@@ -86,7 +86,7 @@ fn list_cells<D: Device>(
     mut count: usize,
 ) -> Result<usize, Fault>
     requires { length payload.now ≡ 480 }
-    ensures { Lists g.now result 15 (cell_rows (sizes g.now) (shows g.now (model device.old)) folder.now (cells payload.now)) (model device.old) (model device.new) count lines.old lines.new }
+    ensures { Lists g.now result 15 (cell_rows (sizes g.now) (shows g.now (D.Device.model device.old)) folder.now (cells payload.now)) (D.Device.model device.old) (D.Device.model device.new) count lines.old lines.new }
 {
     for place in 0..15usize {
         count = list_place(device, g, folder, payload, place, lines, count)?;
@@ -105,7 +105,7 @@ fn list_leaf<D: Device>(
     count: usize,
 ) -> Result<usize, Fault>
     requires { slot.now.kind ≡ Folder }
-    ensures { Lists g.now result 15 (entry_rows (sizes g.now) (shows g.now (model device.old)) folder.now (leaf_places (shows g.now (model device.old)) folder.now (copied slot.now) leaf.0)) (model device.old) (model device.new) count lines.old lines.new }
+    ensures { Lists g.now result 15 (entry_rows (sizes g.now) (shows g.now (D.Device.model device.old)) folder.now (leaf_places (shows g.now (D.Device.model device.old)) folder.now (copied slot.now) leaf.0)) (D.Device.model device.old) (D.Device.model device.new) count lines.old lines.new }
 {
     let copy = read_leaf(device, g, *folder, slot, leaf)?;
     match copy {
@@ -123,7 +123,7 @@ pub fn list_entries<D: Device>(
     slot: &SlotCopy,
     lines: &mut [EntryLine],
 ) -> Result<usize, Fault>
-    ensures { Says g.now result (λ n. Sofar lines.old (entry_rows (sizes g.now) (shows g.now (model device.old)) folder (places (shows g.now (model device.old)) folder (copied slot.now))) n lines.new) (model device.old) (model device.new) }
+    ensures { Says g.now result (λ n. Sofar lines.old (entry_rows (sizes g.now) (shows g.now (D.Device.model device.old)) folder (places (shows g.now (D.Device.model device.old)) folder (copied slot.now))) n lines.new) (D.Device.model device.old) (D.Device.model device.new) }
 {
     match slot.kind {
         Kind::File => return Ok(0),

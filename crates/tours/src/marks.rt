@@ -39,8 +39,8 @@ fn mark_cell<D: Device>(
     work: &mut [u16; 256],
     tail: usize,
 ) -> Result<usize, Fault>
-    requires { (length bytes.now ≡ 32) × ((Sane (sizes g.now) (shows g.now (model device.old)) marks.old work.old tail) × (CellChained (sizes g.now) (shows g.now (model device.old)) folder.now bytes.now)) }
-    ensures { Worked g.now result (CellDone (sizes g.now) (shows g.now (model device.old)) folder.now bytes.now) (model device.old) (model device.new) marks.old work.old tail marks.new work.new }
+    requires { (length bytes.now ≡ 32) × ((Sane (sizes g.now) (shows g.now (D.Device.model device.old)) marks.old work.old tail) × (CellChained (sizes g.now) (shows g.now (D.Device.model device.old)) folder.now bytes.now)) }
+    ensures { Worked g.now result (CellDone (sizes g.now) (shows g.now (D.Device.model device.old)) folder.now bytes.now) (D.Device.model device.old) (D.Device.model device.new) marks.old work.old tail marks.new work.new }
 {
     match parse_cell(g, bytes) {
         Cell::Used(e) => {
@@ -66,8 +66,8 @@ fn mark_place<D: Device>(
     work: &mut [u16; 256],
     tail: usize,
 ) -> Result<usize, Fault>
-    requires { (length payload.now ≡ 480) × ((place < 15) × ((Sane (sizes g.now) (shows g.now (model device.old)) marks.old work.old tail) × (CellChained (sizes g.now) (shows g.now (model device.old)) folder.now (slice_index_or (cells payload.now) place [])))) }
-    ensures { Worked g.now result (CellDone (sizes g.now) (shows g.now (model device.old)) folder.now (slice_index_or (cells payload.now) place [])) (model device.old) (model device.new) marks.old work.old tail marks.new work.new }
+    requires { (length payload.now ≡ 480) × ((place < 15) × ((Sane (sizes g.now) (shows g.now (D.Device.model device.old)) marks.old work.old tail) × (CellChained (sizes g.now) (shows g.now (D.Device.model device.old)) folder.now (slice_index_or (cells payload.now) place [])))) }
+    ensures { Worked g.now result (CellDone (sizes g.now) (shows g.now (D.Device.model device.old)) folder.now (slice_index_or (cells payload.now) place [])) (D.Device.model device.old) (D.Device.model device.new) marks.old work.old tail marks.new work.new }
 {
     match cell_bytes(payload, place) {
         Some(bytes) => mark_cell(device, g, folder, bytes, marks, work, tail),
@@ -85,8 +85,8 @@ fn mark_cells<D: Device>(
     work: &mut [u16; 256],
     mut tail: usize,
 ) -> Result<usize, Fault>
-    requires { (length payload.now ≡ 480) × ((Sane (sizes g.now) (shows g.now (model device.old)) marks.old work.old tail) × (CellsChained (sizes g.now) (shows g.now (model device.old)) folder.now (cells payload.now))) }
-    ensures { Worked g.now result (CellsDone (sizes g.now) (shows g.now (model device.old)) folder.now (cells payload.now) 15) (model device.old) (model device.new) marks.old work.old tail marks.new work.new }
+    requires { (length payload.now ≡ 480) × ((Sane (sizes g.now) (shows g.now (D.Device.model device.old)) marks.old work.old tail) × (CellsChained (sizes g.now) (shows g.now (D.Device.model device.old)) folder.now (cells payload.now))) }
+    ensures { Worked g.now result (CellsDone (sizes g.now) (shows g.now (D.Device.model device.old)) folder.now (cells payload.now) 15) (D.Device.model device.old) (D.Device.model device.new) marks.old work.old tail marks.new work.new }
 {
     for place in 0..15usize {
         tail = mark_place(device, g, folder, payload, place, marks, work, tail)?;
@@ -105,8 +105,8 @@ fn mark_leaf<D: Device>(
     work: &mut [u16; 256],
     tail: usize,
 ) -> Result<usize, Fault>
-    requires { (Open (sizes g.now) (shows g.now (model device.old)) folder.now (copied slot.now)) × (Sane (sizes g.now) (shows g.now (model device.old)) marks.old work.old tail) }
-    ensures { Worked g.now result (LeafDone (sizes g.now) (shows g.now (model device.old)) folder.now (copied slot.now) leaf.0) (model device.old) (model device.new) marks.old work.old tail marks.new work.new }
+    requires { (Open (sizes g.now) (shows g.now (D.Device.model device.old)) folder.now (copied slot.now)) × (Sane (sizes g.now) (shows g.now (D.Device.model device.old)) marks.old work.old tail) }
+    ensures { Worked g.now result (LeafDone (sizes g.now) (shows g.now (D.Device.model device.old)) folder.now (copied slot.now) leaf.0) (D.Device.model device.old) (D.Device.model device.new) marks.old work.old tail marks.new work.new }
 {
     let copy = read_leaf(device, g, *folder, slot, leaf)?;
     match copy {
@@ -125,8 +125,8 @@ fn mark_leaves<D: Device>(
     work: &mut [u16; 256],
     mut tail: usize,
 ) -> Result<usize, Fault>
-    requires { (Open (sizes g.now) (shows g.now (model device.old)) folder.now (copied slot.now)) × (Sane (sizes g.now) (shows g.now (model device.old)) marks.old work.old tail) }
-    ensures { Worked g.now result (LeavesDone (sizes g.now) (shows g.now (model device.old)) folder.now (copied slot.now) slot.now.count) (model device.old) (model device.new) marks.old work.old tail marks.new work.new }
+    requires { (Open (sizes g.now) (shows g.now (D.Device.model device.old)) folder.now (copied slot.now)) × (Sane (sizes g.now) (shows g.now (D.Device.model device.old)) marks.old work.old tail) }
+    ensures { Worked g.now result (LeavesDone (sizes g.now) (shows g.now (D.Device.model device.old)) folder.now (copied slot.now) slot.now.count) (D.Device.model device.old) (D.Device.model device.new) marks.old work.old tail marks.new work.new }
 {
     for k in 0..slot.count {
         tail = mark_leaf(device, g, folder, slot, LeafNo(k), marks, work, tail)?;
@@ -143,8 +143,8 @@ fn expand<D: Device>(
     work: &mut [u16; 256],
     tail: usize,
 ) -> Result<usize, Fault>
-    requires { (Chain (sizes g.now) (shows g.now (model device.old)) at.0) × (Sane (sizes g.now) (shows g.now (model device.old)) marks.old work.old tail) }
-    ensures { Worked g.now result (Done (sizes g.now) (shows g.now (model device.old)) at.0) (model device.old) (model device.new) marks.old work.old tail marks.new work.new }
+    requires { (Chain (sizes g.now) (shows g.now (D.Device.model device.old)) at.0) × (Sane (sizes g.now) (shows g.now (D.Device.model device.old)) marks.old work.old tail) }
+    ensures { Worked g.now result (Done (sizes g.now) (shows g.now (D.Device.model device.old)) at.0) (D.Device.model device.old) (D.Device.model device.new) marks.old work.old tail marks.new work.new }
 {
     let slot = read_slot(device, g, at)?;
     let Some(s) = slot else {
@@ -163,7 +163,7 @@ fn expand<D: Device>(
 // Marks the slots that are reached, and no others. Each reached slot and each leaf of a reached folder is read once,
 // and the child's slot of each well-formed entry there.
 pub fn mark_reached<D: Device>(device: &mut D, g: &Geometry) -> Result<[bool; 256], Fault>
-    ensures { Says g.now result (MarksReached (sizes g.now) (shows g.now (model device.old))) (model device.old) (model device.new) }
+    ensures { Says g.now result (MarksReached (sizes g.now) (shows g.now (D.Device.model device.old))) (D.Device.model device.old) (D.Device.model device.new) }
 {
     let mut marks = [false; 256];
     let mut work = [0u16; 256];

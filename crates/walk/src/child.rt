@@ -36,7 +36,7 @@ pub fn read_child<D: Device>(
     folder: &Handle,
     child: &Handle,
 ) -> Result<Option<SlotCopy>, Fault>
-    ensures { Says g.now result (ChildIs (sizes g.now) (shows g.now (model device.old)) folder.now child.now) (model device.old) (model device.new) }
+    ensures { Says g.now result (ChildIs (sizes g.now) (shows g.now (D.Device.model device.old)) folder.now child.now) (D.Device.model device.old) (D.Device.model device.new) }
 {
     let slot = read_slot(device, g, child.slot)?;
     match slot {

@@ -49,7 +49,7 @@ fn try_cell<D: Device>(
     bytes: &[u8],
 ) -> Result<Option<Child>, Fault>
     requires { length bytes.now ≡ 32 }
-    ensures { Says g.now result (CellIs (sizes g.now) (shows g.now (model device.old)) folder.now name.now bytes.now) (model device.old) (model device.new) }
+    ensures { Says g.now result (CellIs (sizes g.now) (shows g.now (D.Device.model device.old)) folder.now name.now bytes.now) (D.Device.model device.old) (D.Device.model device.new) }
 {
     match parse_cell(g, bytes) {
         Cell::Used(e) => {
@@ -80,7 +80,7 @@ fn try_place<D: Device>(
     place: usize,
 ) -> Result<Option<Child>, Fault>
     requires { (length payload.now ≡ 480) × (place < 15) }
-    ensures { Says g.now result (CellIs (sizes g.now) (shows g.now (model device.old)) folder.now name.now (slice_index_or (cells payload.now) place [])) (model device.old) (model device.new) }
+    ensures { Says g.now result (CellIs (sizes g.now) (shows g.now (D.Device.model device.old)) folder.now name.now (slice_index_or (cells payload.now) place [])) (D.Device.model device.old) (D.Device.model device.new) }
 {
     match cell_bytes(payload, place) {
         Some(bytes) => try_cell(device, g, folder, name, bytes),
@@ -98,7 +98,7 @@ fn find_in_leaf<D: Device>(
     payload: &[u8],
 ) -> Result<Option<Found>, Fault>
     requires { length payload.now ≡ 480 }
-    ensures { Says g.now result (FirstIs (sizes g.now) (shows g.now (model device.old)) folder.now name.now (first_hit (sizes g.now) (shows g.now (model device.old)) folder.now name.now (places_of leaf.0 0 (cells payload.now)))) (model device.old) (model device.new) }
+    ensures { Says g.now result (FirstIs (sizes g.now) (shows g.now (D.Device.model device.old)) folder.now name.now (first_hit (sizes g.now) (shows g.now (D.Device.model device.old)) folder.now name.now (places_of leaf.0 0 (cells payload.now)))) (D.Device.model device.old) (D.Device.model device.new) }
 {
     for place in 0..15usize {
         let child = try_place(device, g, folder, name, payload, place)?;
@@ -127,7 +127,7 @@ fn find_leaf<D: Device>(
     leaf: LeafNo,
 ) -> Result<Option<Found>, Fault>
     requires { slot.now.kind ≡ Folder }
-    ensures { Says g.now result (FirstIs (sizes g.now) (shows g.now (model device.old)) folder.now name.now (first_hit (sizes g.now) (shows g.now (model device.old)) folder.now name.now (leaf_places (shows g.now (model device.old)) folder.now (copied slot.now) leaf.0))) (model device.old) (model device.new) }
+    ensures { Says g.now result (FirstIs (sizes g.now) (shows g.now (D.Device.model device.old)) folder.now name.now (first_hit (sizes g.now) (shows g.now (D.Device.model device.old)) folder.now name.now (leaf_places (shows g.now (D.Device.model device.old)) folder.now (copied slot.now) leaf.0))) (D.Device.model device.old) (D.Device.model device.new) }
 {
     let copy = read_leaf(device, g, *folder, slot, leaf)?;
     match copy {
@@ -144,7 +144,7 @@ pub fn find_entry<D: Device>(
     slot: &SlotCopy,
     name: &[u8],
 ) -> Result<Option<Found>, Fault>
-    ensures { Says g.now result (FirstIs (sizes g.now) (shows g.now (model device.old)) folder.now name.now (found (sizes g.now) (shows g.now (model device.old)) folder.now (copied slot.now) name.now)) (model device.old) (model device.new) }
+    ensures { Says g.now result (FirstIs (sizes g.now) (shows g.now (D.Device.model device.old)) folder.now name.now (found (sizes g.now) (shows g.now (D.Device.model device.old)) folder.now (copied slot.now) name.now)) (D.Device.model device.old) (D.Device.model device.new) }
 {
     match slot.kind {
         Kind::File => return Ok(None),

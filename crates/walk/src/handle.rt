@@ -20,7 +20,7 @@ pub fn read_handle<D: Device>(
     g: &Geometry,
     handle: &Handle,
 ) -> Result<SlotCopy, Refusal>
-    ensures { Gives g.now result (fits (sizes g.now) (shows g.now (model device.old)) handle.now) (λ s. fits (sizes g.now) (shows g.now (model device.old)) handle.now ≡ Ok (copied s)) (model device.old) (model device.new) }
+    ensures { Gives g.now result (fits (sizes g.now) (shows g.now (D.Device.model device.old)) handle.now) (λ s. fits (sizes g.now) (shows g.now (D.Device.model device.old)) handle.now ≡ Ok (copied s)) (D.Device.model device.old) (D.Device.model device.new) }
 {
     let slot = read_slot(device, g, handle.slot)?;
     match slot {
@@ -64,7 +64,7 @@ pub fn read_kind<D: Device>(
     kind: Kind,
     handle: &Handle,
 ) -> Result<SlotCopy, Refusal>
-    ensures { Gives g.now result (reading (sizes g.now) (shows g.now (model device.old)) kind handle.now) (λ s. reading (sizes g.now) (shows g.now (model device.old)) kind handle.now ≡ Ok (copied s)) (model device.old) (model device.new) }
+    ensures { Gives g.now result (reading (sizes g.now) (shows g.now (D.Device.model device.old)) kind handle.now) (λ s. reading (sizes g.now) (shows g.now (D.Device.model device.old)) kind handle.now ≡ Ok (copied s)) (D.Device.model device.old) (D.Device.model device.new) }
 {
     let slot = read_handle(device, g, handle)?;
     want_kind(kind, handle, &slot)?;
@@ -79,7 +79,7 @@ pub fn enter<D: Device>(
     slot: &SlotCopy,
     name: &[u8],
 ) -> Result<Found, Refusal>
-    ensures { Gives g.now result (entered (sizes g.now) (shows g.now (model device.old)) folder.now name.now (copied slot.now)) (Enters (sizes g.now) (shows g.now (model device.old)) (entered (sizes g.now) (shows g.now (model device.old)) folder.now name.now (copied slot.now))) (model device.old) (model device.new) }
+    ensures { Gives g.now result (entered (sizes g.now) (shows g.now (D.Device.model device.old)) folder.now name.now (copied slot.now)) (Enters (sizes g.now) (shows g.now (D.Device.model device.old)) (entered (sizes g.now) (shows g.now (D.Device.model device.old)) folder.now name.now (copied slot.now))) (D.Device.model device.old) (D.Device.model device.new) }
 {
     want_kind(Kind::Folder, folder, slot)?;
     let found = find_entry(device, g, folder, slot, name)?;
@@ -96,7 +96,7 @@ pub fn find_child<D: Device>(
     folder: &Handle,
     name: &[u8],
 ) -> Result<Found, Refusal>
-    ensures { Gives g.now result (step (sizes g.now) (shows g.now (model device.old)) folder.now name.now) (Enters (sizes g.now) (shows g.now (model device.old)) (step (sizes g.now) (shows g.now (model device.old)) folder.now name.now)) (model device.old) (model device.new) }
+    ensures { Gives g.now result (step (sizes g.now) (shows g.now (D.Device.model device.old)) folder.now name.now) (Enters (sizes g.now) (shows g.now (D.Device.model device.old)) (step (sizes g.now) (shows g.now (D.Device.model device.old)) folder.now name.now)) (D.Device.model device.old) (D.Device.model device.new) }
 {
     let slot = read_handle(device, g, folder)?;
     enter(device, g, folder, &slot, name)

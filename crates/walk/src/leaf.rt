@@ -73,7 +73,7 @@ pub fn read_leaf<D: Device>(
     slot: &SlotCopy,
     leaf: LeafNo,
 ) -> Result<Option<LeafCopy>, Fault>
-    ensures { Says g.now result (LeafIs (shows g.now (model device.old)) owner (copied slot.now) leaf.0) (model device.old) (model device.new) }
+    ensures { Says g.now result (LeafIs (shows g.now (D.Device.model device.old)) owner (copied slot.now) leaf.0) (D.Device.model device.old) (D.Device.model device.new) }
 {
     let at = slot.number(leaf);
     if !g.is_body(at) {

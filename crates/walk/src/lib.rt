@@ -1,4 +1,6 @@
 // Reading a card through any device: slots, leaves, entries and paths.
+#![tactic(auto)]
+
 pub mod child;
 pub mod entry;
 pub mod handle;

@@ -94,13 +94,13 @@ fn enter_at<D: Device>(
     name: &[u8],
     component: usize,
 ) -> Result<Found, PathRefusal>
-    ensures { PathGives g.now result (at_component component (entered (sizes g.now) (shows g.now (model device.old)) folder.now name.now (copied slot.now))) (Enters (sizes g.now) (shows g.now (model device.old)) (entered (sizes g.now) (shows g.now (model device.old)) folder.now name.now (copied slot.now))) (model device.old) (model device.new) }
+    ensures { PathGives g.now result (at_component component (entered (sizes g.now) (shows g.now (D.Device.model device.old)) folder.now name.now (copied slot.now))) (Enters (sizes g.now) (shows g.now (D.Device.model device.old)) (entered (sizes g.now) (shows g.now (D.Device.model device.old)) folder.now name.now (copied slot.now))) (D.Device.model device.old) (D.Device.model device.new) }
 {
     at_component(component, enter(device, g, folder, slot, name))
 }
 
 fn read_root<D: Device>(device: &mut D, g: &Geometry) -> Result<SlotCopy, PathRefusal>
-    ensures { PathGives g.now result (at_component 0 (fits (sizes g.now) (shows g.now (model device.old)) root)) (λ s. fits (sizes g.now) (shows g.now (model device.old)) root ≡ Ok (copied s)) (model device.old) (model device.new) }
+    ensures { PathGives g.now result (at_component 0 (fits (sizes g.now) (shows g.now (D.Device.model device.old)) root)) (λ s. fits (sizes g.now) (shows g.now (D.Device.model device.old)) root ≡ Ok (copied s)) (D.Device.model device.old) (D.Device.model device.new) }
 {
     at_component(0, read_handle(device, g, &ROOT))
 }
@@ -112,8 +112,8 @@ fn walk_from<D: Device>(
     top: SlotCopy,
     path: &[u8],
 ) -> Result<Handle, PathRefusal>
-    requires { (fits (sizes g.now) (shows g.now (model device.old)) root ≡ Ok (copied top)) × (0 < length path.now) }
-    ensures { PathGives g.now result (walk (sizes g.now) (shows g.now (model device.old)) 0 root (components path.now)) (λ h. walk (sizes g.now) (shows g.now (model device.old)) 0 root (components path.now) ≡ Ok h) (model device.old) (model device.new) }
+    requires { (fits (sizes g.now) (shows g.now (D.Device.model device.old)) root ≡ Ok (copied top)) × (0 < length path.now) }
+    ensures { PathGives g.now result (walk (sizes g.now) (shows g.now (D.Device.model device.old)) 0 root (components path.now)) (λ h. walk (sizes g.now) (shows g.now (D.Device.model device.old)) 0 root (components path.now) ≡ Ok h) (D.Device.model device.old) (D.Device.model device.new) }
 {
     let mut at = ROOT;
     let mut slot = top;
@@ -137,7 +137,7 @@ pub fn walk_path<D: Device>(
     g: &Geometry,
     path: &[u8],
 ) -> Result<Handle, PathRefusal>
-    ensures { PathGives g.now result (walk (sizes g.now) (shows g.now (model device.old)) 0 root (components path.now)) (λ h. walk (sizes g.now) (shows g.now (model device.old)) 0 root (components path.now) ≡ Ok h) (model device.old) (model device.new) }
+    ensures { PathGives g.now result (walk (sizes g.now) (shows g.now (D.Device.model device.old)) 0 root (components path.now)) (λ h. walk (sizes g.now) (shows g.now (D.Device.model device.old)) 0 root (components path.now) ≡ Ok h) (D.Device.model device.old) (D.Device.model device.new) }
 {
     if path.is_empty() {
         return Ok(ROOT);

@@ -61,7 +61,7 @@ pub fn read_slot<D: Device>(
     g: &Geometry,
     slot: SlotNo,
 ) -> Result<Option<SlotCopy>, Fault>
-    ensures { Says g.now result (SlotIs (sizes g.now) (shows g.now (model device.old)) slot.0) (model device.old) (model device.new) }
+    ensures { Says g.now result (SlotIs (sizes g.now) (shows g.now (D.Device.model device.old)) slot.0) (D.Device.model device.old) (D.Device.model device.new) }
 {
     let Some(at) = g.slot_block(slot) else {
         return Ok(None);
