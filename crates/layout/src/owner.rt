@@ -57,7 +57,7 @@ impl Owned for Slot<'_> {
 
 // Whether an owned thing names this owner.
 pub fn names<O: Owned>(thing: &O, line: &O::Line) -> bool
-    ensures { Decides result (owner thing.now ≡ line.now) }
+    ensures { Decides result (O.Owned.owner thing.now ≡ line.now) }
 {
     thing.line().same(line)
 }
