@@ -9,7 +9,7 @@ use Rattle.tours.proofs.list.list_cell.Goals as goal
 
 pub returns-in-Some : goal.returns-in-Some
 returns-in-Some g c =
-    let e = c.in_ok-child.ensures in (
+    let e = c.in_ok-child-in-Used.ensures in (
       e.0,
       adds_is 1 1 _ _ _ _ _ _ (omega arith)
           (cell_sound (sizes c.args.g.now) (shows c.args.g.now (g.D.Device.model c.args.device.now)) c.args.folder.now c.args.bytes.now c.in-Used.e.name.now c.in-Used.e.child _ (c.in-Used.ensures.leads c.requires) (sym e.1 ∙ ap (option_map copied) c.in-Some.is))
@@ -18,7 +18,7 @@ returns-in-Some g c =
 
 pub returns-in-None : goal.returns-in-None
 returns-in-None g c =
-    let e = c.in_ok-child.ensures in (
+    let e = c.in_ok-child-in-Used.ensures in (
       e.0,
       adds_is 1 1 _ _ _ _ _ _ (omega arith)
           (cell_unsound (sizes c.args.g.now) (shows c.args.g.now (g.D.Device.model c.args.device.now)) c.args.folder.now c.args.bytes.now c.in-Used.e.name.now c.in-Used.e.child (c.in-Used.ensures.leads c.requires) (sym e.1 ∙ ap (option_map copied) c.in-None.is))

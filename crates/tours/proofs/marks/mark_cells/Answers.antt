@@ -40,4 +40,4 @@ loop-place-preserved g c =
     )
 
 pub returns : goal.returns
-returns g c = (c.loop-place.invariant.0, (c.loop-place.invariant.1, λ j h. c.loop-place.invariant.2 j (let a = c.loop-place.auto.place_end in omega arith)))
+returns g c = (c.loop-place.invariant.0, (c.loop-place.invariant.1, λ j h. c.loop-place.invariant.2 j (let a = c.loop-place.auto.place-end in omega arith)))

@@ -48,8 +48,8 @@ returns-in_err-g g c = record {
   valid = λ v. v;
 }
 
-pub returns-in_err-commit : goal.returns-in_err-commit
-returns-in_err-commit g c =
+pub returns-in_err-commit-in-Ok : goal.returns-in_err-commit-in-Ok
+returns-in_err-commit-in-Ok g c =
     let me = c.args.self.now in
     let geo = c.in_ok-g.g in
     let ready = me.core.ready in
@@ -66,9 +66,9 @@ returns-in_err-commit g c =
           let e = c.in-Ok.ensures (grounded geo mem ms m w) in
           let q = e.1 in
           let p : Plan Handle = plan_view c.in-Ok.w.child geo c.in-Ok.w.plan in
-          let r = err_from_is_err_and c.from_residual-in_err-commit.result c.from_residual-in_err-commit.ensures.1 in
+          let r = err_from_is_err_and c.from_residual-in_err-commit-in-Ok.result c.from_residual-in_err-commit-in-Ok.ensures.1 in
           let inside = create_inside (sizes geo) (card_view geo mem) m.shown w.tied k.count (omega (arith, e.0.kept.count, w.fits)) c.args.kind c.args.folder.now c.args.name.now p q.rule in
-          let b = c.in_err-commit.ensures.commits q.few inside in
+          let b = c.in_err-commit-in-Ok.ensures.commits q.few inside in
           changes_broken (changing.create c.args.kind c.args.folder.now c.args.name.now) geo ready is mem m p k n _ _ _ b.0 q.rule e.0 b.2 b.3 b.4 (r.1 ∙ ap Err (r.2 ∙ b.1));
       valid = λ v.
           let w = knows v in
@@ -76,12 +76,12 @@ returns-in_err-commit g c =
           let q = e.1 in
           let p : Plan Handle = plan_view c.in-Ok.w.child geo c.in-Ok.w.plan in
           let inside = create_inside (sizes geo) (card_view geo mem) m.shown w.tied k.count (omega (arith, e.0.kept.count, w.fits)) c.args.kind c.args.folder.now c.args.name.now p q.rule in
-          let b = c.in_err-commit.ensures.commits q.few inside in
+          let b = c.in_err-commit-in-Ok.ensures.commits q.few inside in
           gone_known _ _ _ _ _ b.3;
     }
 
-pub returns-in_ok-commit : goal.returns-in_ok-commit
-returns-in_ok-commit g c =
+pub returns-in_ok-commit-in-Ok : goal.returns-in_ok-commit-in-Ok
+returns-in_ok-commit-in-Ok g c =
     let me = c.args.self.now in
     let geo = c.in_ok-g.g in
     let ready = me.core.ready in
@@ -99,7 +99,7 @@ returns-in_ok-commit g c =
           let q = e.1 in
           let p : Plan Handle = plan_view c.in-Ok.w.child geo c.in-Ok.w.plan in
           let inside = create_inside (sizes geo) (card_view geo mem) m.shown w.tied k.count (omega (arith, e.0.kept.count, w.fits)) c.args.kind c.args.folder.now c.args.name.now p q.rule in
-          let b = c.in_ok-commit.ensures.commits q.few inside in
+          let b = c.in_ok-commit-in-Ok.ensures.commits q.few inside in
           changes_done (changing.create c.args.kind c.args.folder.now c.args.name.now) geo ready is mem m p k n _ _ _ q.rule e.0 b.0 b.1 (ap (card_view geo) b.2) refl;
       valid = λ v.
           let w = knows v in
@@ -107,7 +107,7 @@ returns-in_ok-commit g c =
           let q = e.1 in
           let p : Plan Handle = plan_view c.in-Ok.w.child geo c.in-Ok.w.plan in
           let inside = create_inside (sizes geo) (card_view geo mem) m.shown w.tied k.count (omega (arith, e.0.kept.count, w.fits)) c.args.kind c.args.folder.now c.args.name.now p q.rule in
-          let b = c.in_ok-commit.ensures.commits q.few inside in
+          let b = c.in_ok-commit-in-Ok.ensures.commits q.few inside in
           let slot = with_slot ms c.in-Ok.w.child.slot.0 (Some (slot_line (new_slot c.args.kind c.args.folder.now c.in-Ok.w.child.identity.0))) in
           let after = with_gained slot (body_taken (sizes geo) (shows geo m) (card_view geo mem) (open_place (sizes geo) (shows geo m) c.args.folder.now q.folder)) (back c.args.folder.now (count q.folder)) in
           let marks : c.mark_leaf.new.marks ≡ after =

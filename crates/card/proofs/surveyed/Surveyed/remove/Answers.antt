@@ -42,8 +42,8 @@ returns-in_err-g g c = record {
   valid = λ v. v;
 }
 
-pub returns-in_err-commit : goal.returns-in_err-commit
-returns-in_err-commit g c =
+pub returns-in_err-commit-in-Ok : goal.returns-in_err-commit-in-Ok
+returns-in_err-commit-in-Ok g c =
     let me = c.args.self.now in
     let geo = c.in_ok-g.g in
     let ready = me.core.ready in
@@ -60,9 +60,9 @@ returns-in_err-commit g c =
           let e = c.in-Ok.ensures (grounded geo mem ms m w) in
           let q = e.1 in
           let p : Plan (Unit {0}) = plan_view tt geo c.in-Ok.w.plan in
-          let r = err_from_is_err_and c.from_residual-in_err-commit.result c.from_residual-in_err-commit.ensures.1 in
+          let r = err_from_is_err_and c.from_residual-in_err-commit-in-Ok.result c.from_residual-in_err-commit-in-Ok.ensures.1 in
           let inside = remove_inside (sizes geo) (card_view geo mem) m.shown w.tied k.count (omega (arith, e.0.kept.count, w.fits)) c.args.folder.now c.args.name.now p q.rule in
-          let b = c.in_err-commit.ensures.commits q.few inside in
+          let b = c.in_err-commit-in-Ok.ensures.commits q.few inside in
           changes_broken (changing.remove c.args.folder.now c.args.name.now) geo ready is mem m p k n _ _ _ b.0 q.rule e.0 b.2 b.3 b.4 (r.1 ∙ ap Err (r.2 ∙ b.1));
       valid = λ v.
           let w = knows v in
@@ -70,12 +70,12 @@ returns-in_err-commit g c =
           let q = e.1 in
           let p : Plan (Unit {0}) = plan_view tt geo c.in-Ok.w.plan in
           let inside = remove_inside (sizes geo) (card_view geo mem) m.shown w.tied k.count (omega (arith, e.0.kept.count, w.fits)) c.args.folder.now c.args.name.now p q.rule in
-          let b = c.in_err-commit.ensures.commits q.few inside in
+          let b = c.in_err-commit-in-Ok.ensures.commits q.few inside in
           gone_known _ _ _ _ _ b.3;
     }
 
-pub returns-in_ok-commit : goal.returns-in_ok-commit
-returns-in_ok-commit g c =
+pub returns-in_ok-commit-in-Ok : goal.returns-in_ok-commit-in-Ok
+returns-in_ok-commit-in-Ok g c =
     let me = c.args.self.now in
     let geo = c.in_ok-g.g in
     let ready = me.core.ready in
@@ -93,7 +93,7 @@ returns-in_ok-commit g c =
           let q = e.1 in
           let p : Plan (Unit {0}) = plan_view tt geo c.in-Ok.w.plan in
           let inside = remove_inside (sizes geo) (card_view geo mem) m.shown w.tied k.count (omega (arith, e.0.kept.count, w.fits)) c.args.folder.now c.args.name.now p q.rule in
-          let b = c.in_ok-commit.ensures.commits q.few inside in
+          let b = c.in_ok-commit-in-Ok.ensures.commits q.few inside in
           changes_done (changing.remove c.args.folder.now c.args.name.now) geo ready is mem m p k n _ _ _ q.rule e.0 b.0 b.1 (ap (card_view geo) b.2) refl;
       valid = λ v.
           let w = knows v in
@@ -101,7 +101,7 @@ returns-in_ok-commit g c =
           let q = e.1 in
           let p : Plan (Unit {0}) = plan_view tt geo c.in-Ok.w.plan in
           let inside = remove_inside (sizes geo) (card_view geo mem) m.shown w.tied k.count (omega (arith, e.0.kept.count, w.fits)) c.args.folder.now c.args.name.now p q.rule in
-          let b = c.in_ok-commit.ensures.commits q.few inside in
+          let b = c.in_ok-commit-in-Ok.ensures.commits q.few inside in
           let all : count (copied c.in-Ok.w.slot) - 0 ≡ count (copied c.in-Ok.w.slot) = omega arith in
           let after = with_slot (without ms c.in-Ok.w.child (copied c.in-Ok.w.slot) (from 0 (count (copied c.in-Ok.w.slot)))) c.in-Ok.w.child.slot.0 None in
           let marks : c.set_slot.new.self ≡ after = c.set_slot.ensures ∙ ap (λ (z : Marks). with_slot z c.in-Ok.w.child.slot.0 None) (c.drop_leaves.ensures ∙ ap (λ (z : Marks). without z c.in-Ok.w.child (copied c.in-Ok.w.slot) (from 0 (count (copied c.in-Ok.w.slot) - 0))) c.commit.ensures.marks ∙ ap (λ (i : ℕ). without ms c.in-Ok.w.child (copied c.in-Ok.w.slot) (from 0 i)) all) in

@@ -3,11 +3,11 @@ use Rattle.std.proofs.lemmas.Result.{err_from_is_err_and}
 use Rattle.card.proofs.Syncs.{syncs_early, syncs_answered, syncs_gone, sync_known, sync_gone_known}
 use Rattle.card.proofs.surveyed.Surveyed.sync.Goals as goal
 
-pub returns-in_err--g : goal.returns-in_err--g
-returns-in_err--g g c = record {
+pub returns-in_err-_g : goal.returns-in_err-_g
+returns-in_err-_g g c = record {
   syncs = λ v.
       let p = err_from_is_err_and c.from_residual.result c.from_residual.ensures.1 in
-      syncs_early c.args.self.now.core.ready c.args.self.now.memory (g.D.Device.model c.args.self.now.core.device) _ _ _ c.in_err--g.was p.1 p.2;
+      syncs_early c.args.self.now.core.ready c.args.self.now.memory (g.D.Device.model c.args.self.now.core.device) _ _ _ c.in_err-_g.was p.1 p.2;
   valid = λ v. v;
 }
 
@@ -18,7 +18,7 @@ returns-in-Ok g c =
     let n = g.D.Device.model c.sync.new.self in
     let h = c.in-Ok.ensures in
     record {
-      syncs = λ v. syncs_answered me.core.ready me.memory m c.in_ok--g.-g c.in_ok--g.was n c.in-Ok.answer _ c.sync_answer.ensures h;
+      syncs = λ v. syncs_answered me.core.ready me.memory m c.in_ok-_g.-g c.in_ok-_g.was n c.in-Ok.answer _ c.sync_answer.ensures h;
       valid = λ v. sync_known me.core.ready me.memory me.marks m n c.in-Ok.answer h v;
     }
 
@@ -29,6 +29,6 @@ returns-in-Err g c =
     let k = g.D.Device.model c.sync.new.self in
     let r = c.refuse.ensures in
     record {
-      syncs = λ v. syncs_gone me.core.ready me.memory m c.in_ok--g.-g c.in_ok--g.was _ k _ _ _ c.in-Err.e r.0 c.into.ensures (ap g.D.Device.model r.1) r.2 c.in-Err.ensures;
+      syncs = λ v. syncs_gone me.core.ready me.memory m c.in_ok-_g.-g c.in_ok-_g.was _ k _ _ _ c.in-Err.e r.0 c.into.ensures (ap g.D.Device.model r.1) r.2 c.in-Err.ensures;
       valid = λ v. sync_gone_known me.core.ready _ me.memory me.marks m k _ _ c.in-Err.e c.into.ensures r.2 c.in-Err.ensures;
     }

@@ -45,8 +45,8 @@ returns-in_err-g g c = record {
   valid = λ v. v;
 }
 
-pub returns-in_err-commit : goal.returns-in_err-commit
-returns-in_err-commit g c =
+pub returns-in_err-commit-in-Ok : goal.returns-in_err-commit-in-Ok
+returns-in_err-commit-in-Ok g c =
     let me = c.args.self.now in
     let geo = c.in_ok-g.g in
     let ready = me.core.ready in
@@ -63,9 +63,9 @@ returns-in_err-commit g c =
           let e = c.in-Ok.ensures (grounded geo mem ms m w) in
           let q = e.1 in
           let p : Plan (Unit {0}) = plan_view tt geo c.in-Ok.w.plan in
-          let r = err_from_is_err_and c.from_residual-in_err-commit.result c.from_residual-in_err-commit.ensures.1 in
+          let r = err_from_is_err_and c.from_residual-in_err-commit-in-Ok.result c.from_residual-in_err-commit-in-Ok.ensures.1 in
           let inside = write_inside (sizes geo) (card_view geo mem) m.shown w.tied k.count (omega (arith, e.0.kept.count, w.fits)) c.args.file.now c.args.leaf.0 c.args.bytes.now p q.rule in
-          let b = c.in_err-commit.ensures.commits q.few inside in
+          let b = c.in_err-commit-in-Ok.ensures.commits q.few inside in
           changes_broken (changing.write c.args.file.now c.args.leaf.0 c.args.bytes.now) geo ready is mem m p k n _ _ _ b.0 q.rule e.0 b.2 b.3 b.4 (r.1 ∙ ap Err (r.2 ∙ b.1));
       valid = λ v.
           let w = knows v in
@@ -73,12 +73,12 @@ returns-in_err-commit g c =
           let q = e.1 in
           let p : Plan (Unit {0}) = plan_view tt geo c.in-Ok.w.plan in
           let inside = write_inside (sizes geo) (card_view geo mem) m.shown w.tied k.count (omega (arith, e.0.kept.count, w.fits)) c.args.file.now c.args.leaf.0 c.args.bytes.now p q.rule in
-          let b = c.in_err-commit.ensures.commits q.few inside in
+          let b = c.in_err-commit-in-Ok.ensures.commits q.few inside in
           gone_known _ _ _ _ _ b.3;
     }
 
-pub returns-in_ok-commit : goal.returns-in_ok-commit
-returns-in_ok-commit g c =
+pub returns-in_ok-commit-in-Ok : goal.returns-in_ok-commit-in-Ok
+returns-in_ok-commit-in-Ok g c =
     let me = c.args.self.now in
     let geo = c.in_ok-g.g in
     let ready = me.core.ready in
@@ -96,7 +96,7 @@ returns-in_ok-commit g c =
           let q = e.1 in
           let p : Plan (Unit {0}) = plan_view tt geo c.in-Ok.w.plan in
           let inside = write_inside (sizes geo) (card_view geo mem) m.shown w.tied k.count (omega (arith, e.0.kept.count, w.fits)) c.args.file.now c.args.leaf.0 c.args.bytes.now p q.rule in
-          let b = c.in_ok-commit.ensures.commits q.few inside in
+          let b = c.in_ok-commit-in-Ok.ensures.commits q.few inside in
           changes_done (changing.write c.args.file.now c.args.leaf.0 c.args.bytes.now) geo ready is mem m p k n _ _ _ q.rule e.0 b.0 b.1 (ap (card_view geo) b.2) refl;
       valid = λ v.
           let w = knows v in
@@ -104,7 +104,7 @@ returns-in_ok-commit g c =
           let q = e.1 in
           let p : Plan (Unit {0}) = plan_view tt geo c.in-Ok.w.plan in
           let inside = write_inside (sizes geo) (card_view geo mem) m.shown w.tied k.count (omega (arith, e.0.kept.count, w.fits)) c.args.file.now c.args.leaf.0 c.args.bytes.now p q.rule in
-          let b = c.in_ok-commit.ensures.commits q.few inside in
+          let b = c.in_ok-commit-in-Ok.ensures.commits q.few inside in
           let after = with_gained ms (body_added (sizes geo) (shows geo m) (card_view geo mem) c.args.leaf.0 (count q.slot)) (back c.args.file.now c.args.leaf.0) in
           let marks : c.mark_gained.new.marks ≡ after = c.mark_gained.ensures ∙ ap (λ (z : Marks). with_gained z (option_map block_number c.in-Ok.w.body) (back c.args.file.now c.args.leaf.0)) c.commit.ensures.marks ∙ ap (λ o. with_gained ms o (back c.args.file.now c.args.leaf.0)) q.body in
           subst (λ (z : Marks). Known c.commit.new.self.core.ready c.commit.new.self.memory z n) (sym marks)
