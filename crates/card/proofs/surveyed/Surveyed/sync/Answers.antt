@@ -18,7 +18,7 @@ returns-in-Ok g c =
     let n = g.D.Device.model c.sync.new.self in
     let h = c.in-Ok.ensures in
     record {
-      syncs = λ v. syncs_answered me.core.ready me.memory m c.in_ok-_g.-g c.in_ok-_g.was n c.in-Ok.answer _ c.sync_answer.ensures h;
+      syncs = λ v. syncs_answered me.core.ready me.memory m c.in_ok-_g._g c.in_ok-_g.was n c.in-Ok.answer _ c.sync_answer.ensures h;
       valid = λ v. sync_known me.core.ready me.memory me.marks m n c.in-Ok.answer h v;
     }
 
@@ -29,6 +29,6 @@ returns-in-Err g c =
     let k = g.D.Device.model c.sync.new.self in
     let r = c.refuse.ensures in
     record {
-      syncs = λ v. syncs_gone me.core.ready me.memory m c.in_ok-_g.-g c.in_ok-_g.was _ k _ _ _ c.in-Err.e r.0 c.into.ensures (ap g.D.Device.model r.1) r.2 c.in-Err.ensures;
+      syncs = λ v. syncs_gone me.core.ready me.memory m c.in_ok-_g._g c.in_ok-_g.was _ k _ _ _ c.in-Err.e r.0 c.into.ensures (ap g.D.Device.model r.1) r.2 c.in-Err.ensures;
       valid = λ v. sync_gone_known me.core.ready _ me.memory me.marks m k _ _ c.in-Err.e c.into.ensures r.2 c.in-Err.ensures;
     }
