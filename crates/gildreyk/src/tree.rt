@@ -1,5 +1,6 @@
 // The tree of a card: its folders and files, their leaves, and what is damaged.
 use crate::text::{print_name, refusal_text};
+use anyhow::anyhow;
 use base::number::{LeafNo, SlotNo};
 use base::owner::{Handle, Kind};
 use base::refusal::Refusal;
@@ -29,7 +30,10 @@ struct Todo {
 fn refuse<A: Drop>(rt: &HostRuntime, answer: Result<A, Refusal>) -> anyhow::Result<A> {
     match answer {
         Ok(a) => Ok(a),
-        Err(e) => Err(refusal_text(rt.alloc(), &e)?.into()),
+        Err(e) => {
+            let why = refusal_text(rt.alloc(), &e)?;
+            Err(anyhow!("{why}"))
+        }
     }
 }
 
