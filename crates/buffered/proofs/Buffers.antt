@@ -1,17 +1,17 @@
 -- What the steps of a buffered card do to its model.
-use Rattle.std.proofs.Common.{◌≡◌, ℕ, ◌+◌, ◌<◌, ◌≤◌, Bool, true, false, not, ◌⊎◌, List, [], ◌∷◌, length, set, Some, None, Ok, Err, Option, Result, sym, refl, ap, ◌∙◌, subst, inl, inr, ⊎_elim, arith, length-set}
+use Rattle.std.proofs.Common.{◌≡◌, ℕ, ◌<◌, Bool, true, false, ◌⊎◌, List, length, set, Some, None, Ok, Err, Option, Result, sym, refl, ap, ◌∙◌, subst, inl, inr, ⊎_elim, arith, length-set}
 use mathlib.Core.Path.{fun_ext}
 use Rattle.base.specs.declared.number.BlockNo.{BlockNo}
-use Rattle.device.specs.Model.{Model, Block, In, Stands, Is, Kept, Stayed, Lost, Written, Torn, Settled, Cut, put}
-use Rattle.device.specs.Answers.{ReadFault, WriteFault, SyncAnswer, SyncFault, Missing, power_gone}
+use Rattle.device.specs.Model.{Model, Block, In, Stands, Is, Kept, Stayed, Lost, Written, Torn, Cut, put}
+use Rattle.device.specs.Answers.{ReadFault, WriteFault, SyncAnswer, SyncFault, power_gone}
 use Rattle.device.specs.declared.put.Put.{Put}
 use Rattle.device.specs.declared.fault.Fault.{Fault}
 use Rattle.device.specs.declared.fault.Fault.TheVariants.{PowerGone, NoSuchBlock}
 use Rattle.device.specs.declared.fault.Synced.{Synced}
 use Rattle.device.specs.declared.fault.Synced.TheVariants.{Settled as SettledAnswer, Unsure}
 use Rattle.buffered.specs.Buffered.{Table, buffered, over, standing, at_place, Used, Holds, block_of, number, contents, Found, Absent, Vacant, Full, Top, Empty, Inside, waiting}
-use Rattle.buffered.specs.Steps.{put_of, Alone, Sent, Unsent, Stored, replaced, added, evicted, Accepted, WriteRefused, Drained, none, more, Asked, SyncedBy, SyncRefused, SyncBy}
-use Rattle.buffered.specs.Inner.{SentDown, Halted, Fits, Made, own, free, emptied, Placed, NoPlace, Sending}
+use Rattle.buffered.specs.Steps.{put_of, Alone, Unsent, Stored, replaced, added, evicted, Accepted, WriteRefused, none, more, SyncBy}
+use Rattle.buffered.specs.Inner.{SentDown, Halted, Made, own, free, emptied, Placed, NoPlace, Sending}
 use Rattle.buffered.proofs.Tables.{Waits, standing_cases, standing_below, standing_waits, over_sent, waits_sent, waits_place, over_hidden, over_filled, waits_filled, over_found, over_absent, over_empty, waits_empty, used_within, holds_sent, unused_sent, waiting_sent, inside_sent, inside_filled}
 use Rattle.device.specs.Answers.{Sync}
 

@@ -1,9 +1,9 @@
 -- What a table of waiting blocks shows and holds, as places are filled and emptied.
-use Rattle.std.proofs.Common.{◌≡◌, ℕ, zero, suc, ◌+◌, ◌<◌, ◌≤◌, Bool, true, false, cond, eqb, ◌⊎◌, List, [], ◌∷◌, length, get_or, set, Some, None, Option, sym, refl, ap, ◌∙◌, inl, inr, ⊎_elim, arith}
+use Rattle.std.proofs.Common.{◌≡◌, ℕ, zero, suc, ◌<◌, Bool, true, false, cond, eqb, ◌⊎◌, List, [], ◌∷◌, length, set, Some, None, refl, ap, inl, inr, ⊎_elim, arith}
 use Rattle.std.proofs.lemmas.Bool.{eqb-true, eq-eqb, ne_eqb, cases_eq}
 use Rattle.std.proofs.lemmas.Bool.Decides.{nat_tests}
-use Rattle.device.specs.Model.{Block, In, put}
-use Rattle.buffered.specs.Buffered.{Table, over, standing, at_place, Used, block_of, number, contents, Holds, Found, Absent, Vacant, Top, Empty, Inside, waiting}
+use Rattle.device.specs.Model.{In, put}
+use Rattle.buffered.specs.Buffered.{Table, over, standing, at_place, Used, number, contents, Holds, Found, Absent, Empty, Inside, waiting}
 use Rattle.device.specs.declared.put.Put.{Put}
 
 -- x waits for block b

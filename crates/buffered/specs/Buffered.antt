@@ -1,5 +1,5 @@
 -- What a card with waiting blocks means.
-use Rattle.std.specs.Prelude.{◌≡◌, ℕ, ◌+◌, ◌<◌, ◌≤◌, Bool, true, false, cond, not, ◌⊎◌, List, [], ◌∷◌, length, Some, None, Option, ◌==◌, slice_index_or, refl}
+use Rattle.std.specs.Prelude.{◌≡◌, ℕ, ◌+◌, ◌<◌, ◌≤◌, Bool, true, false, cond, not, List, [], ◌∷◌, length, Some, None, Option, ◌==◌, slice_index_or, refl}
 use Rattle.std.proofs.Common.{inl}
 use Rattle.base.specs.declared.number.BlockNo.{BlockNo}
 use Rattle.device.specs.Model.{Model, Block, In}

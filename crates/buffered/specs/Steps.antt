@@ -2,13 +2,13 @@
 -- The table is ws before and vs after; g and h say whether power gone was met before and after; m and n are the device below.
 use Rattle.std.specs.Prelude.{◌≡◌, ℕ, ◌<◌, ◌≤◌, Bool, true, false, ◌⊎◌, Some, None, Ok, Err, Option, Result, MatchResult, slice_set}
 use Rattle.base.specs.declared.number.BlockNo.{BlockNo}
-use Rattle.device.specs.Model.{Model, Block, Stayed, Lost, Written}
+use Rattle.device.specs.Model.{Model, Block, Written}
 use Rattle.device.specs.Answers.{Read, WriteFault, SyncAnswer, SyncFault, power_gone}
 use Rattle.device.specs.declared.put.Put.{Put}
 use Rattle.device.specs.declared.fault.Fault.{Fault}
 use Rattle.device.specs.declared.fault.Fault.TheVariants.{PowerGone, NoSuchBlock}
 use Rattle.device.specs.declared.fault.Synced.{Synced}
-use Rattle.buffered.specs.Buffered.{Table, buffered, at_place, Used, block_of, number, contents, Found, Absent, Vacant, Full, Top, Empty}
+use Rattle.buffered.specs.Buffered.{Table, at_place, block_of, number, contents, Found, Absent, Vacant, Full, Top, Empty}
 
 abbrev pub put_of : BlockNo → Block → Option Put
 put_of at c = Some (record { block = at; bytes = c })

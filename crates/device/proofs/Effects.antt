@@ -1,12 +1,12 @@
 -- Several writes, one after another.
-use Rattle.std.proofs.Common.{◌≡◌, ℕ, zero, suc, ◌+◌, ◌<◌, ◌≤◌, Bool, true, false, cond, eqb, ltb, ◌⊎◌, List, [], ◌∷◌, ◌++◌, length, get_or, take, drop, Some, None, Option, sym, refl, ap, ◌∙◌, inl, inr, ⊎_elim, arith}
-use Rattle.std.proofs.lemmas.Bool.{cases_eq, eq-eqb, ne_eqb, ltb-true, ltb-false, lt-ltb, le-ltb}
+use Rattle.std.proofs.Common.{◌≡◌, ℕ, zero, suc, ◌+◌, ◌<◌, ◌≤◌, Bool, true, false, cond, ltb, ◌⊎◌, List, [], ◌∷◌, ◌++◌, length, get_or, take, drop, Some, None, Option, sym, refl, ap, ◌∙◌, inl, inr, ⊎_elim, arith}
+use Rattle.std.proofs.lemmas.Bool.{cases_eq, eq-eqb, ne_eqb, ltb-true, lt-ltb, le-ltb}
 use Rattle.device.specs.Model.{Model, Block, Stands, put, Is}
 use Rattle.device.specs.Effect.{puts, PutAt, first_outside}
 use Rattle.device.specs.declared.put.Put.{Put}
 use Rattle.std.proofs.lemmas.List.{take_more, drop_more, drop_all}
 use Rattle.base.specs.declared.number.BlockNo.{BlockNo}
-use Rattle.device.specs.Model.{Kept, Lost, Written, Torn}
+use Rattle.device.specs.Model.{Lost, Written, Torn}
 use Rattle.device.specs.Answers.{WriteFault}
 use Rattle.device.specs.Effect.{Outcome, Altered, accepted, broken, Named, WriteAllFault, CutLeaves}
 use Rattle.device.specs.declared.fault.Fault.{Fault}

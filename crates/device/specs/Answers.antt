@@ -1,5 +1,5 @@
 -- What each call of a device says, by its answer: of the model m before the call and n after it.
-use Rattle.std.specs.Prelude.{◌≡◌, ℕ, ◌<◌, ◌≤◌, Bool, true, false, ◌⊎◌, List, Result, MatchResult}
+use Rattle.std.specs.Prelude.{◌≡◌, ◌<◌, ◌≤◌, Bool, true, false, ◌⊎◌, Result, MatchResult}
 use Rattle.device.specs.Model.{Model, Block, Written, Torn, Stayed, Lost, Settled}
 use Rattle.base.specs.declared.number.BlockNo.{BlockNo}
 use Rattle.base.specs.declared.refusal.Refusal.{Refusal}

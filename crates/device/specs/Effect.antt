@@ -1,5 +1,5 @@
 -- The effect of writing several blocks as one.
-use Rattle.std.specs.Prelude.{◌≡◌, ℕ, ◌<◌, Bool, false, cond, ◌⊎◌, List, [], ◌∷◌, Some, None, Option, Result, MatchResult, nat_lt}
+use Rattle.std.specs.Prelude.{◌≡◌, ℕ, Bool, false, cond, ◌⊎◌, List, [], ◌∷◌, Some, None, Option, Result, MatchResult, nat_lt}
 use Rattle.device.specs.Model.{Model, Block, Stands, Cut, put, Is}
 use Rattle.base.specs.declared.number.BlockNo.{BlockNo}
 use Rattle.device.specs.declared.put.Put.{Put}

@@ -1,5 +1,5 @@
 -- What a card that fails on purpose means: the device below, with the power off once `gone` is set.
-use Rattle.std.specs.Prelude.{◌≡◌, ℕ, ◌+◌, Bool, true, false, cond, ◌||◌, is_ok, Err, Result, ◌==◌}
+use Rattle.std.specs.Prelude.{◌≡◌, ◌+◌, Bool, true, false, cond, ◌||◌, is_ok, Err, Result, ◌==◌}
 use Rattle.device.specs.Model.{Model}
 use Rattle.base.specs.declared.number.BlockNo.{BlockNo}
 use Rattle.device.specs.declared.failing.Failing.{Failing}

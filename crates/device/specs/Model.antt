@@ -1,6 +1,6 @@
 -- What a device of 512-byte blocks means: how many blocks, whether power is on, what each block shows,
 -- and the contents of which each block may show one after a power cut (its crash states).
-use Rattle.std.specs.Prelude.{◌≡◌, ℕ, ◌<◌, ◌≤◌, Bool, true, false, cond, ◌⊎◌, List, [], ◌∷◌, ◌==◌}
+use Rattle.std.specs.Prelude.{◌≡◌, ℕ, ◌<◌, Bool, true, false, cond, ◌⊎◌, List, [], ◌∷◌, ◌==◌}
 
 -- the bytes of a block
 abbrev pub Block : Type 0

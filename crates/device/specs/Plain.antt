@@ -1,5 +1,5 @@
 -- What a card over plain bytes means: the whole blocks of an image, at most 4096, each settled as it is written.
-use Rattle.std.specs.Prelude.{ℕ, ◌+◌, ◌*◌, ◌/◌, min, true, cond, List, [], ◌∷◌, ◌++◌, length, take, drop, Ok, Err, Result, nat_lt, refl}
+use Rattle.std.specs.Prelude.{ℕ, ◌*◌, ◌/◌, min, true, cond, List, [], ◌∷◌, ◌++◌, length, take, drop, Ok, Err, Result, nat_lt, refl}
 use Rattle.std.proofs.Common.{inl}
 use Rattle.device.specs.Model.{Model, Block, In}
 use Rattle.base.specs.declared.number.BlockNo.{BlockNo}

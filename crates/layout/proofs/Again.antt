@@ -1,12 +1,11 @@
 -- What is read may be written again.
-use Rattle.std.proofs.Common.{◌≡◌, ℕ, zero, suc, ◌+◌, ◌*◌, ◌^◌, ◌<◌, ◌≤◌, Bool, true, false, cond, ◌&&◌, eqb, ltb, leb, ◌⊎◌, List, [], ◌∷◌, ◌++◌, length, get_or, take, drop, sym, refl, ap, ◌∙◌, subst, inl, inr, ⊎_elim, arith}
+use Rattle.std.proofs.Common.{◌≡◌, ℕ, ◌+◌, ◌^◌, ◌<◌, ◌≤◌, Bool, true, false, cond, ◌&&◌, eqb, ltb, leb, List, length, get_or, drop, sym, refl, subst, inl, inr, arith}
 use Rattle.std.proofs.lemmas.List.{length-take-le, length-drop}
-use Rattle.std.proofs.lemmas.Bool.{and_parts, cases_Bool, cond-true, cond-false, leb-true, ltb-true, eqb-true}
+use Rattle.std.proofs.lemmas.Bool.{and_parts, leb-true, ltb-true}
 use Rattle.base.specs.declared.owner.Kind.{Kind}
 use Rattle.base.specs.declared.owner.Kind.TheVariants.{File, Folder}
-use Rattle.base.specs.declared.owner.Back.{Back}
-use Rattle.layout.specs.Format.{Geometry, Slot, Cell, Content, blank, cover, slotted, file_body, folder_body, ill_formed, in_limits, leaf_limit, region, Region, cover_region, slot_region, body_region, beyond, by_kind, parse, cover_of, slot_of, slot_fits, slot_fields, back_of, back_fits, file_body_of, folder_body_of, all_bodies, numbers_of, cells_of, le16, le32, between}
-use Rattle.layout.specs.Laws.{SlotFits, BackFits, whole_cells, Writable, Rewritable, Bytes}
+use Rattle.layout.specs.Format.{Geometry, Content, blank, ill_formed, in_limits, leaf_limit, region, Region, cover_region, slot_region, body_region, beyond, by_kind, parse, cover_of, slot_of, slot_fits, slot_fields, back_of, back_fits, file_body_of, folder_body_of, all_bodies, numbers_of, le16, le32}
+use Rattle.layout.specs.Laws.{SlotFits, BackFits, Writable, Rewritable, Bytes}
 use Rattle.layout.proofs.Numbers.{length_numbers}
 use Rattle.layout.proofs.Back.{whole_of}
 

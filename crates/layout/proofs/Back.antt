@@ -1,19 +1,19 @@
 -- What is written is what is read.
-use Rattle.std.proofs.Common.{◌≡◌, ℕ, zero, suc, ◌+◌, ◌-◌, ◌*◌, ◌/◌, ◌%◌, ◌^◌, ◌<◌, ◌≤◌, Bool, true, false, cond, ◌&&◌, eqb, ltb, leb, ◌⊎◌, List, [], ◌∷◌, ◌++◌, length, get_or, take, drop, set, replicate, sym, refl, ap, ◌∙◌, inl, inr, append_assoc, arith}
+use Rattle.std.proofs.Common.{◌≡◌, ℕ, zero, suc, ◌+◌, ◌-◌, ◌*◌, ◌/◌, ◌%◌, ◌^◌, ◌<◌, ◌≤◌, true, ◌&&◌, eqb, ltb, leb, List, [], ◌∷◌, ◌++◌, length, get_or, take, drop, set, replicate, sym, refl, ap, ◌∙◌, inl, inr, append_assoc, arith}
 use native.Mathlib.Nat.{div-div-eq-div-mul}
-use Rattle.std.proofs.lemmas.List.{take_at, drop_at, get_or-set_same, get_or-set_other, length-set, length-drop, length-take-le}
-use Rattle.std.proofs.lemmas.Bool.{and_parts, and_from, eqb-true, eq-eqb, le-leb, lt-ltb, leb-true, ltb-true}
+use Rattle.std.proofs.lemmas.List.{take_at, drop_at, get_or-set_same, get_or-set_other, length-drop, length-take-le}
+use Rattle.std.proofs.lemmas.Bool.{and_parts, and_from, eqb-true, eq-eqb, le-leb, lt-ltb, ltb-true}
 use Rattle.std.proofs.lemmas.Bool.Decides.{nat_tests}
 use Rattle.base.specs.declared.owner.Kind.{Kind}
 use Rattle.base.specs.declared.owner.Kind.TheVariants.{File, Folder}
 use Rattle.base.specs.declared.owner.Handle.{Handle}
 use Rattle.base.specs.declared.owner.Back.{Back}
-use Rattle.layout.specs.Format.{Geometry, Slot, Name, Cell, Content, blank, cover, slotted, file_body, folder_body, ill_formed, entry, no_entry, in_limits, leaf_limit, region, Region, cover_region, slot_region, body_region, by_kind, parse, encode, cell, handle, slot_of, slot_fits, slot_fields, slot_byte, body_bytes, cover_of, file_body_of, folder_body_of, all_bodies, body_number, numbers_of, cells_of, numbers_bytes, cells_bytes, padded, le16, le32, entry_of, entry_fits, good_name, plain_bytes, between}
+use Rattle.layout.specs.Format.{Geometry, Slot, Name, Cell, Content, blank, cover, slotted, file_body, folder_body, ill_formed, entry, in_limits, region, Region, cover_region, slot_region, body_region, by_kind, parse, encode, cell, slot_of, slot_byte, body_bytes, cover_of, file_body_of, folder_body_of, all_bodies, body_number, numbers_of, cells_of, numbers_bytes, cells_bytes, padded, entry_of, good_name, plain_bytes}
 use Rattle.layout.specs.Head.{cells, slot_head_at, body_head_at, slot_by, file_body_by, folder_body_by, slot_head_fits, body_head_fits}
 use Rattle.layout.specs.declared.block.SlotHead.{SlotHead}
 use Rattle.layout.specs.declared.block.BodyHead.{BodyHead}
 use Rattle.layout.proofs.Parsing.{slot_parts, folder_parts}
-use Rattle.layout.specs.Laws.{IdentityFits, SlotFits, BackFits, ChildFits, whole_cells, Writable, ReadAs, ReadAsFolder, ReadAsEntry, ChangedAt}
+use Rattle.layout.specs.Laws.{SlotFits, BackFits, ChildFits, whole_cells, Writable, ReadAs, ReadAsFolder, ReadAsEntry, ChangedAt}
 
 back16 : (n : ℕ) → n < 65536 → n % 256 + 256 * (n / 256 % 256) ≡ n
 back16 n h = omega arith

@@ -1,7 +1,7 @@
 -- The cells of a folder's leaf.
-use Rattle.std.proofs.Common.{◌≡◌, ℕ, zero, suc, ◌+◌, ◌-◌, ◌*◌, ◌/◌, ◌<◌, ◌≤◌, List, [], ◌∷◌, length, get_or, take, drop, sym, refl, ap, ◌∙◌, arith}
-use Rattle.std.proofs.lemmas.List.{drop-drop, get_or-drop, get_or-take, drop-take, take-take, length-drop, length-take-le}
-use Rattle.layout.specs.Format.{Cell, cells_of}
+use Rattle.std.proofs.Common.{◌≡◌, ℕ, zero, suc, ◌+◌, ◌-◌, ◌*◌, ◌<◌, ◌≤◌, List, [], ◌∷◌, length, get_or, take, drop, sym, refl, ap, ◌∙◌, arith}
+use Rattle.std.proofs.lemmas.List.{drop-drop, drop-take, take-take, length-drop, length-take-le}
+use Rattle.layout.specs.Format.{cells_of}
 use Rattle.layout.specs.Head.{cells}
 
 cells_of_take : (n : ℕ) (z : List ℕ) → cells_of n (take (32 * n) z) ≡ cells_of n z

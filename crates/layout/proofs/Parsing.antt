@@ -1,10 +1,9 @@
 -- What the parts that a parser read make of a block.
-use Rattle.std.proofs.Common.{◌≡◌, ℕ, ◌-◌, Bool, true, false, cond, ◌&&◌, ltb, leb, List, [], ◌∷◌, length, get_or, take, drop, sym, refl, ap, ◌∙◌}
+use Rattle.std.proofs.Common.{◌≡◌, ℕ, ◌-◌, Bool, true, false, cond, ◌&&◌, ltb, leb, List, length, get_or, take, drop, refl, ap, ◌∙◌}
 use Rattle.std.proofs.lemmas.List.{take_rest}
 use Rattle.base.specs.declared.owner.Kind.{Kind}
-use Rattle.base.specs.declared.owner.Kind.TheVariants.{File, Folder}
-use Rattle.layout.specs.Format.{Geometry, Content, Region, slot_region, body_region, by_kind, parse, region, slotted, ill_formed, slot_fields, slot_of, folder_body_of, le16, le32, numbers_of, all_bodies, leaf_limit}
-use Rattle.layout.specs.Head.{cells, slot_head_at, body_head_at, slot_by, file_body_by, folder_body_by}
+use Rattle.layout.specs.Format.{Geometry, Content, Region, by_kind, parse, region, slotted, ill_formed, slot_fields, slot_of, folder_body_of, le16, le32, numbers_of, all_bodies, leaf_limit}
+use Rattle.layout.specs.Head.{cells, slot_head_at, body_head_at, slot_by, folder_body_by}
 
 -- the head, and the part of the block after it as a pattern gives it
 pub joined : {H : Type 0} (of : H → List ℕ → Content) (z : List ℕ) (p q : Content) (h h' : H) → p ≡ of h (take (length z - 16) (drop 16 z)) → h ≡ h' → of h' (drop 16 z) ≡ q → p ≡ q

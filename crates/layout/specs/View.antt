@@ -6,7 +6,6 @@ use Rattle.layout.specs.Format.{Content, blank, cover, slotted, file_body, folde
 use Rattle.layout.specs.Sizes.{geometry}
 use Rattle.layout.specs.Head.{cells}
 use Rattle.layout.specs.declared.block.Slot.{Slot}
-use Rattle.layout.specs.declared.block.Body.{Body}
 use Rattle.layout.specs.declared.block.Block.{Block}
 use Rattle.layout.specs.declared.block.Block.TheVariants.{Blank, Cover, FileSlot, FolderSlot, FileBody, FolderBody, IllFormed}
 

@@ -1,9 +1,9 @@
 -- A list that is filled by place, one more line at a time.
-use Rattle.std.proofs.Common.{◌≡◌, ℕ, zero, suc, ◌+◌, ◌-◌, ◌^◌, ◌<◌, ◌≤◌, min, ◌⊎◌, List, [], ◌∷◌, ◌++◌, length, get_or, take, drop, set, replicate, sym, refl, ap, ◌∙◌, inl, inr, ⊎_elim, append_assoc, add-one, arith}
+use Rattle.std.proofs.Common.{◌≡◌, ℕ, ◌+◌, ◌-◌, ◌^◌, ◌<◌, ◌≤◌, List, [], ◌∷◌, ◌++◌, length, get_or, take, drop, set, replicate, sym, refl, ap, ◌∙◌, ⊎_elim, append_assoc, arith}
 use borrow.Rule.Slice.PartMut.{post_of}
-use Rattle.std.proofs.lemmas.List.{append-nil, take_all, take-append-le, drop_all, drop_more, drop-replicate, set_at, set_past, length_push, length-append, length-take, length-drop, length-replicate, replicate_more}
+use Rattle.std.proofs.lemmas.List.{append-nil, take_all, take-append-le, drop_all, drop_more, drop-replicate, set_at, set_past, length_push, length-take, length-replicate, replicate_more}
 use Rattle.std.proofs.lemmas.Bool.{cases_lt}
-use Rattle.listing.specs.Lines.{listed, Sofar, counted, name_field}
+use Rattle.listing.specs.Lines.{listed, Sofar, counted}
 
 module _ {L : Type 0} (lines items : List L) (x : L) where
   over : length lines ≤ length items → listed lines items ≡ take (length lines) items

@@ -1,5 +1,5 @@
 -- What a list leaves in the caller's lines.
-use Rattle.std.specs.Prelude.{◌≡◌, ℕ, ◌+◌, ◌-◌, ◌^◌, min, List, [], ◌∷◌, ◌++◌, length, take, drop, replicate}
+use Rattle.std.specs.Prelude.{◌≡◌, ℕ, ◌+◌, ◌-◌, ◌^◌, min, List, ◌++◌, length, take, drop, replicate}
 use Rattle.base.specs.declared.owner.Handle.{Handle}
 use Rattle.listing.specs.declared.line.EntryLine.{EntryLine}
 

@@ -1,10 +1,10 @@
 -- What the calls of a ledger do to its model.
-use Rattle.std.proofs.Common.{◌≡◌, ℕ, ◌+◌, ◌-◌, ◌%◌, ◌<◌, ◌≤◌, min, Bool, true, false, cond, not, ltb, ◌⊎◌, List, [], ◌∷◌, ◌++◌, length, get_or, take, set, replicate, None, Ok, Err, Option, sym, refl, ap, ◌∙◌, inl, inr, ⊎_elim, zero-le, mod-lt, arith, length-set}
+use Rattle.std.proofs.Common.{◌≡◌, ℕ, ◌-◌, ◌%◌, ◌<◌, ◌≤◌, min, Bool, true, false, cond, not, ltb, ◌⊎◌, List, [], ◌∷◌, ◌++◌, length, get_or, take, set, replicate, None, Ok, Err, Option, sym, refl, ap, ◌∙◌, inl, inr, ⊎_elim, zero-le, mod-lt, arith, length-set}
 use mathlib.Core.Path.{fun_ext}
 use Rattle.std.proofs.lemmas.List.{get_or_past, get_or-replicate, length-replicate, take_all}
 use Rattle.std.proofs.lemmas.Bool.{cases_lt, lt-ltb, cond-true, cond-false}
 use Rattle.base.specs.declared.number.BlockNo.{BlockNo}
-use Rattle.device.specs.Model.{Model, Block, In, Stands, Is, Kept, Stayed, Lost, Written, Torn, Settled, Cut, put}
+use Rattle.device.specs.Model.{Model, Block, In, Stands, Is, Kept, Written, Torn, Settled, Cut, put}
 use Rattle.device.specs.declared.put.Put.{Put}
 use Rattle.device.specs.declared.fault.Fault.TheVariants.{PowerGone}
 use Rattle.device.specs.declared.fault.Synced.TheVariants.{Settled as SettledAnswer, Unsure}

@@ -1,4 +1,4 @@
-use Rattle.std.proofs.Common.{◌≡◌, take}
+use Rattle.std.proofs.Common.{take}
 use Rattle.device.specs.Effect.{Altered, accepted}
 use Rattle.device.proofs.effect.write_all.Given as goal
 

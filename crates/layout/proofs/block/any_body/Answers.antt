@@ -1,4 +1,4 @@
-use Rattle.std.proofs.Common.{sym, refl, ap, ◌∙◌}
+use Rattle.std.proofs.Common.{sym, ap, ◌∙◌}
 use Rattle.base.specs.declared.owner.Kind.{Kind}
 use Rattle.layout.specs.Sizes.{sizes}
 use Rattle.layout.specs.Head.{body_of, body_head_at, file_body_by, folder_body_by}

@@ -1,4 +1,4 @@
-use Rattle.std.proofs.Common.{sym, ap, ◌∙◌, arith}
+use Rattle.std.proofs.Common.{sym, ap, ◌∙◌}
 use Rattle.layout.specs.Format.{body_number}
 use Rattle.layout.specs.Sizes.{sizes}
 use Rattle.layout.proofs.Numbers.{spoilt, one_more}

@@ -1,5 +1,4 @@
 use Rattle.std.proofs.Common.{◌≤◌, sym, arith}
-use Rattle.std.proofs.lemmas.Bool.Decides.{nat_tests}
 use Rattle.base.specs.declared.owner.Kind.TheVariants.{File, Folder}
 use Rattle.layout.specs.Sizes.{sizes}
 use Rattle.layout.proofs.Numbers.{slot_whole, part_sized, count_few}

@@ -1,4 +1,4 @@
-use Rattle.std.proofs.Common.{◌≡◌, List, length, ap, arith}
+use Rattle.std.proofs.Common.{List, length, ap, arith}
 use Rattle.device.specs.Model.{Block}
 use Rattle.power.proofs.Logs.{many_then, many_else, written_done}
 use Rattle.power.proofs.ledger.writes_to.Goals as goal

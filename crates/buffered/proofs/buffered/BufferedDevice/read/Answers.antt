@@ -1,4 +1,4 @@
-use Rattle.std.proofs.Common.{◌≡◌, ◌<◌, Ok, sym, refl, ap, arith}
+use Rattle.std.proofs.Common.{◌<◌, Ok, sym, refl, ap, arith}
 use Rattle.buffered.specs.Buffered.{contents}
 use Rattle.buffered.specs.Steps.{waits, asked}
 use Rattle.buffered.proofs.Buffers.{alone, read_fault, read_found, read_absent, read_count, same_stayed, stayed_below}

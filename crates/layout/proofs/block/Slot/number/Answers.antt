@@ -1,5 +1,4 @@
-use Rattle.std.proofs.Common.{◌≡◌, ◌/◌, length, sym, ◌∙◌, arith}
-use Rattle.layout.specs.View.{all_numbers}
+use Rattle.std.proofs.Common.{◌/◌, length, sym, ◌∙◌, arith}
 use Rattle.layout.proofs.Numbers.{length_numbers, number_at}
 use Rattle.layout.proofs.block.Slot.number.Goals as goal
 

@@ -1,4 +1,4 @@
-use Rattle.std.proofs.Common.{◌≡◌, ◌<◌, length, set, ap, ◌∙◌, le_refl, arith, length-set}
+use Rattle.std.proofs.Common.{◌<◌, length, set, ap, ◌∙◌, le_refl, arith, length-set}
 use Rattle.power.specs.View.{View}
 use Rattle.power.specs.Calls.{with_book}
 use Rattle.power.proofs.Logs.{landed_more, landed_above}

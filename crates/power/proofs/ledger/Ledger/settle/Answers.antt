@@ -1,4 +1,4 @@
-use Rattle.std.proofs.Common.{◌≡◌, ◌<◌, ◌≤◌, length, sym, ap, ◌∙◌, arith}
+use Rattle.std.proofs.Common.{◌<◌, ◌≤◌, length, sym, ap, ◌∙◌, arith}
 use Rattle.power.specs.View.{View, view}
 use Rattle.power.specs.Calls.{with_book}
 use Rattle.power.proofs.Logs.{replay_step, replay_done}

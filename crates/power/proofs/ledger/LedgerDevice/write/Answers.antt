@@ -1,4 +1,4 @@
-use Rattle.std.proofs.Common.{◌≡◌, ℕ, ◌<◌, Option, sym, refl, ap, ◌∙◌, inr, arith}
+use Rattle.std.proofs.Common.{ℕ, ◌<◌, Option, sym, refl, ap, ◌∙◌, inr, arith}
 use Rattle.power.specs.View.{view, blocks}
 use Rattle.power.specs.Calls.{noted, with_left}
 use Rattle.power.proofs.Ledgers.{accepted, accepted_answer, broken, broken_answer}
