@@ -27,9 +27,8 @@ use Rattle.walk.proofs.Stills.{still}
 use Rattle.walk.proofs.Stepping.{bind_ok, bind_err}
 use Rattle.card.specs.Views.{Kept, ready_view, Fitting}
 use Rattle.card.specs.Calls.{CoreReads}
-use Rattle.card.specs.Progress.{so_far}
+use Rattle.card.specs.Progress.{Progress, so_far}
 use Rattle.card.specs.Valid.{Sees, Seen, Known}
-use Rattle.card.specs.declared.progress.Progress.{Progress}
 use Rattle.card.proofs.Progresses.{learned_moved}
 use Rattle.card.proofs.Plans.{view, state, still_known, gone_known}
 use Rattle.card.proofs.Quiet.{Quiet}

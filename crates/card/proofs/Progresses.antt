@@ -15,8 +15,7 @@ use Rattle.survey.specs.Survey.{Sofar}
 use Rattle.survey.specs.declared.survey.Survey.{Survey}
 use Rattle.walk.specs.Still.{shows, Says, Failed}
 use Rattle.walk.proofs.Stepping.{bind_ok}
-use Rattle.card.specs.Progress.{Learned, so_far}
-use Rattle.card.specs.declared.progress.Progress.{Progress}
+use Rattle.card.specs.Progress.{Progress, Learned, so_far}
 
 module _ (g : CardGeometry) (m : Model) (p : Progress) (w : Learned g m p) (x : Block) (bytes : x ≡ m.shown p.next) where
   -- what the block holds, as the device shows it

@@ -30,10 +30,9 @@ use Rattle.walk.specs.Still.{Still, Failed, shows}
 use Rattle.walk.proofs.Stills.{still}
 use Rattle.change.specs.Plans.{card_view}
 use Rattle.change.specs.declared.plan.Memory.{Memory}
-use Rattle.card.specs.Progress.{Learned, so_far}
+use Rattle.card.specs.Progress.{Progress, Learned, so_far}
 use Rattle.card.specs.Valid.{Sees, Seen, Knows, Known}
 use Rattle.card.specs.Views.{Kept, ready_view}
-use Rattle.card.specs.declared.progress.Progress.{Progress}
 use Rattle.card.proofs.Cores.{still_sees, gone_seen}
 use Rattle.card.proofs.Plans.{view, gone_known}
 use Rattle.card.proofs.Progresses.{turn_agrees, learned_moved}

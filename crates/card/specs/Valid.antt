@@ -12,9 +12,8 @@ use Rattle.change.specs.Plans.{card_view}
 use Rattle.change.specs.declared.plan.Memory.{Memory}
 use Rattle.card_lists.specs.Ready.{Kept}
 use Rattle.rule.specs.Card.{opening, opened, surveyed}
-use Rattle.card.specs.Progress.{Learned, so_far}
+use Rattle.card.specs.Progress.{Progress, Learned, so_far, progress_of}
 use Rattle.card.specs.declared.opened.Opened.{Opened}
-use Rattle.card.specs.declared.progress.Progress.{Progress}
 use Rattle.card.specs.declared.surveyed.Surveyed.{Surveyed}
 
 -- a good card only opened: it is no larger than its device, and what its survey has learned so far is true of the blocks shown
@@ -30,7 +29,7 @@ Seen (Ok g) p m = Sees g p m
 Seen (Err e) p m = Unit {0}
 
 abbrev pub ValidOpened : {D : Type 0} → (D → Model) → Opened D → Type 0
-ValidOpened model c = Seen c.core.ready c.progress (model c.core.device)
+ValidOpened model c = Seen c.core.ready (progress_of c) (model c.core.device)
 
 -- a good surveyed card: it is no larger than its device, its memory is tied to the blocks shown, and its marks agree with them
 pub record Knows (g : CardGeometry) (mem : Memory) (ms : Marks) (m : Model) : Type 0 where

@@ -34,7 +34,7 @@ status_view s = record { kind = s.kind; count = s.count; parent = s.parent }
 
 -- a card only opened, on a device of model m
 abbrev pub opened_view : {D : Type 0} → Opened D → rule_of_card.Opened
-opened_view c = record { ready = ready_view c.core.ready; next = c.progress.next; highest = c.progress.highest.0 }
+opened_view c = record { ready = ready_view c.core.ready; next = c.next; highest = c.highest.0 }
 
 abbrev pub opened_state : {D : Type 0} → Opened D → Model → State
 opened_state c m = record { device = m; card = opened (opened_view c) }

@@ -17,7 +17,7 @@ ghost use Rattle.card.specs.Views.{Fitting, status_view, surveying_view, opened_
 
 use crate::core::{Core, Status};
 use crate::open::open_card;
-use crate::progress::{Progress, examine_next, examine_rest};
+use crate::progress::{examine_next, examine_rest};
 use crate::surveyed::Surveyed;
 use base::number::{Identity, LeafNo};
 use base::owner::Handle;
@@ -28,13 +28,16 @@ use layout::geometry::Geometry;
 use listing::line::{DamageLine, EntryLine};
 use marks::mark::Marks;
 use power::PowerCut;
-use survey::survey::begin;
+use survey::survey::{Survey, begin};
 
-// A card that can be read, and surveyed, of which `progress` says how far it has come.
+// A card that can be read, and surveyed: `next` is the block that the survey examines next, `highest` the highest identity
+// that it has seen so far, and `survey` what else it has learned.
 #[derive(Drop)]
 pub struct Opened<D> {
     core: Core<D>,
-    progress: Progress,
+    next: u16,
+    highest: Identity,
+    survey: Survey,
 }
 
 // How a survey stands: how many blocks remain to be examined, and the highest identity seen so far.
@@ -55,11 +58,9 @@ pub fn open<D: Device>(device: D) -> Opened<D>
     let ready = open_card(&mut device);
     Opened {
         core: Core { device, ready },
-        progress: Progress {
-            next: 1,
-            highest: Identity(0),
-            survey: begin(),
-        },
+        next: 1,
+        highest: Identity(0),
+        survey: begin(),
     }
 }
 
@@ -139,17 +140,23 @@ impl<D: Device> Opened<D> {
         ensures valid { ValidOpened D.Device.model self.old → ValidOpened D.Device.model self.new }
     {
         let g = self.core.ready?;
-        if self.progress.next >= g.blocks {
+        if self.next >= g.blocks {
             return Ok(Surveying {
                 remain: 0,
-                highest: self.progress.highest,
+                highest: self.highest,
             });
         }
-        let remain = g.blocks - self.progress.next - 1;
-        match examine_next(&mut self.core.device, &g, &mut self.progress) {
+        let remain = g.blocks - self.next - 1;
+        match examine_next(
+            &mut self.core.device,
+            &g,
+            &mut self.next,
+            &mut self.highest,
+            &mut self.survey,
+        ) {
             Ok(()) => Ok(Surveying {
                 remain,
-                highest: self.progress.highest,
+                highest: self.highest,
             }),
             Err(e) => Err(self.core.refuse(e.into())),
         }
@@ -161,20 +168,25 @@ impl<D: Device> Opened<D> {
         ensures ends { ValidOpened D.Device.model self → Ends (opened_on D.Device.model self) (surveyed_on D.Device.model result) }
         ensures valid { ValidOpened D.Device.model self → Valid D.Device.model result }
     {
-        let Opened { mut core, progress } = self;
+        let Opened {
+            mut core,
+            mut next,
+            highest,
+            mut survey,
+        } = self;
         let Ok(g) = core.ready else {
-            return unsurveyed(core, progress.highest);
+            return unsurveyed(core, highest);
         };
-        let mut rest = progress;
-        match examine_rest(&mut core.device, &g, &mut rest) {
+        let mut top = highest;
+        match examine_rest(&mut core.device, &g, &mut next, &mut top, &mut survey) {
             Ok(()) => Surveyed {
                 core,
-                memory: first_memory(&g, rest.highest),
-                marks: rest.survey.finish(&g),
+                memory: first_memory(&g, top),
+                marks: survey.finish(&g),
             },
             Err(e) => {
                 core.refuse(e.into());
-                unsurveyed(core, progress.highest)
+                unsurveyed(core, highest)
             }
         }
     }
@@ -185,7 +197,7 @@ impl<D: PowerCut> Opened<D> {
     pub fn cut(self, landing: &[u16]) -> D
         ensures { Cut (D.Device.model self.core.device) (D.Device.model result) }
     {
-        let Opened { core, progress: _ } = self;
+        let Opened { core, .. } = self;
         let Core { device, ready: _ } = core;
         let mut device = device;
         device.cut(landing);

@@ -3,7 +3,7 @@ ghost use Rattle.std.specs.Prelude.{◌≡◌, ◌+◌, ◌<◌, Ok, MatchResult
 ghost use Rattle.layout.specs.Sizes.{sizes};
 ghost use Rattle.rule.specs.Card.{examined, surveyed};
 ghost use Rattle.walk.specs.Still.{Says};
-ghost use Rattle.card.specs.Progress.{Learned, so_far};
+ghost use Rattle.card.specs.Progress.{Learned, so_far, progress_at};
 
 use base::number::{BlockNo, Identity};
 use device::Device;
@@ -12,30 +12,24 @@ use entries::identity::highest_told;
 use layout::geometry::Geometry;
 use survey::survey::Survey;
 
-// The next block to examine, the highest identity seen so far, and what else was learned.
-#[derive(Clone, Copy)]
-pub struct Progress {
-    pub(crate) next: u16,
-    pub(crate) highest: Identity,
-    pub(crate) survey: Survey,
-}
-
-// Examines the next block: one read.
+// Examines block `next`: one read. `highest` is the highest identity seen so far, and `survey` what else was learned.
 pub(crate) fn examine_next<D: Device>(
     device: &mut D,
     g: &Geometry,
-    progress: &mut Progress,
+    next: &mut u16,
+    highest: &mut Identity,
+    survey: &mut Survey,
 ) -> Result<(), Fault>
-    requires { progress.old.next < g.now.blocks }
-    ensures examined { Learned g.now (D.Device.model device.old) progress.old → Says g.now result (λ _. Learned g.now (D.Device.model device.old) progress.new × (so_far (Ok (sizes g.now)) progress.new ≡ examined (sizes g.now) (D.Device.model device.old).shown (so_far (Ok (sizes g.now)) progress.old))) (D.Device.model device.old) (D.Device.model device.new) }
-    ensures kept { MatchResult result (λ _. progress.new.next ≡ progress.old.next + 1) (λ _. progress.new ≡ progress.old) }
+    requires { next.old < g.now.blocks }
+    ensures examined { Learned g.now (D.Device.model device.old) (progress_at next.old highest.old survey.old) → Says g.now result (λ _. Learned g.now (D.Device.model device.old) (progress_at next.new highest.new survey.new) × (so_far (Ok (sizes g.now)) (progress_at next.new highest.new survey.new) ≡ examined (sizes g.now) (D.Device.model device.old).shown (so_far (Ok (sizes g.now)) (progress_at next.old highest.old survey.old)))) (D.Device.model device.old) (D.Device.model device.new) }
+    ensures kept { MatchResult result (λ _. next.new ≡ next.old + 1) (λ _. progress_at next.new highest.new survey.new ≡ progress_at next.old highest.old survey.old) }
 {
-    let at = BlockNo(progress.next);
+    let at = BlockNo(*next);
     let block = device.read(at)?;
     let told = highest_told(g, at, &block);
-    progress.highest = Identity(progress.highest.0.max(told.0));
-    progress.survey.examine(g, at, &block);
-    progress.next += 1;
+    *highest = Identity(highest.0.max(told.0));
+    survey.examine(g, at, &block);
+    *next += 1;
     Ok(())
 }
 
@@ -43,12 +37,14 @@ pub(crate) fn examine_next<D: Device>(
 pub(crate) fn examine_rest<D: Device>(
     device: &mut D,
     g: &Geometry,
-    progress: &mut Progress,
+    next: &mut u16,
+    highest: &mut Identity,
+    survey: &mut Survey,
 ) -> Result<(), Fault>
-    ensures { Learned g.now (D.Device.model device.old) progress.old → Says g.now result (λ _. Learned g.now (D.Device.model device.old) progress.new × (progress.new.next ≡ g.now.blocks) × (surveyed (so_far (Ok (sizes g.now)) progress.new) (D.Device.model device.old).shown ≡ surveyed (so_far (Ok (sizes g.now)) progress.old) (D.Device.model device.old).shown)) (D.Device.model device.old) (D.Device.model device.new) }
+    ensures { Learned g.now (D.Device.model device.old) (progress_at next.old highest.old survey.old) → Says g.now result (λ _. Learned g.now (D.Device.model device.old) (progress_at next.new highest.new survey.new) × (next.new ≡ g.now.blocks) × (surveyed (so_far (Ok (sizes g.now)) (progress_at next.new highest.new survey.new)) (D.Device.model device.old).shown ≡ surveyed (so_far (Ok (sizes g.now)) (progress_at next.old highest.old survey.old)) (D.Device.model device.old).shown)) (D.Device.model device.old) (D.Device.model device.new) }
 {
-    while progress.next < g.blocks {
-        examine_next(device, g, progress)?;
+    while *next < g.blocks {
+        examine_next(device, g, next, highest, survey)?;
     }
     Ok(())
 }

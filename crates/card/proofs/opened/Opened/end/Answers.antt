@@ -4,6 +4,7 @@ use Rattle.rule.specs.Changing.{last_identity}
 use Rattle.history.specs.Events.{State, Ends, surveyed}
 use Rattle.change.specs.declared.plan.Memory.{Memory}
 use Rattle.card.specs.declared.core.Core.{Core}
+use Rattle.card.specs.Progress.{progress_of, progress_at}
 use Rattle.card.specs.Valid.{Sees, Seen, Known}
 use Rattle.card.specs.Views.{Kept}
 use Rattle.card.proofs.Plans.{view, gone_known}
@@ -13,7 +14,7 @@ use Rattle.card.proofs.opened.Opened.end.Goals as goal
 pub returns-in_default : goal.returns-in_default
 returns-in_default g c =
     let k = c.args.self.core.ready in
-    let p = c.args.self.progress in
+    let p = progress_of c.args.self in
     let m = g.D.Device.model c.args.self.core.device in
     let u = c.unsurveyed.ensures in
     let ready = ap (λ (z : Core _). z.ready) u.0 in
@@ -30,10 +31,10 @@ returns-in-Ok-examine_rest g c =
     let geo = c.in-Ok.g in
     let k = c.args.self.core.ready in
     let is = c.in-Ok.is in
-    let p = c.args.self.progress in
+    let p = progress_of c.args.self in
     let m = g.D.Device.model c.args.self.core.device in
     let sees : Seen k p m → Sees geo p m = λ see. subst (λ (z : Kept). Seen z p m) is see in
-    let q = c.examine_rest.new.progress in
+    let q = progress_at c.examine_rest.new.next c.examine_rest.new.highest c.examine_rest.new.survey in
     let n = g.D.Device.model c.examine_rest.new.device in
     let f = c.first_memory.ensures in
     record {
@@ -50,7 +51,7 @@ returns-in-Err g c =
     let geo = c.in-Ok.g in
     let k = c.args.self.core.ready in
     let is = c.in-Ok.is in
-    let p = c.args.self.progress in
+    let p = progress_of c.args.self in
     let m = g.D.Device.model c.args.self.core.device in
     let sees : Seen k p m → Sees geo p m = λ see. subst (λ (z : Kept). Seen z p m) is see in
     let u = c.unsurveyed-in-Err.ensures in
