@@ -10,7 +10,7 @@ use Rattle.rule.specs.Card as rule_of_card
 use Rattle.rule.specs.Reading as rule_of_reading
 use Rattle.history.specs.Events.{State, opened, surveyed}
 use Rattle.change.specs.declared.plan.Gained.{Gained}
-use Rattle.card.specs.declared.core.Status.{Status}
+use Rattle.card.specs.declared.inner.Status.{Status}
 use Rattle.card.specs.declared.opened.Opened.{Opened}
 use Rattle.card.specs.declared.opened.Surveying.{Surveying}
 use Rattle.card.specs.declared.surveyed.Space.{Space}

@@ -5,7 +5,7 @@ ghost use Rattle.tours.specs.Damage.{damage_row};
 ghost use Rattle.card_lists.specs.Ready.{Fitting, Listing};
 ghost use Rattle.card_lists.specs.Lined.{zero_entry, zero_damage};
 
-use crate::core::Core;
+use crate::inner::Core;
 use base::owner::Handle;
 use base::refusal::Refusal;
 use card_lists::{damage_on, list_on};

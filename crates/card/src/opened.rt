@@ -15,7 +15,7 @@ ghost use Rattle.card.specs.Calls.{Fills};
 ghost use Rattle.card.specs.Valid.{ValidOpened, Valid};
 ghost use Rattle.card.specs.Views.{Fitting, status_view, surveying_view, opened_state, opened_on, surveyed_on};
 
-use crate::core::{Core, Status};
+use crate::inner::{Core, Status};
 use crate::open::open_card;
 use crate::progress::{examine_next, examine_rest};
 use crate::surveyed::Surveyed;

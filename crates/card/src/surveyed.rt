@@ -21,7 +21,7 @@ ghost use Rattle.card.specs.Commits.{Puts, Commits};
 ghost use Rattle.card.specs.Valid.{Valid};
 ghost use Rattle.card.specs.Views.{status_view, space_view, block_number, gained_block, surveyed_on};
 
-use crate::core::{Core, Status};
+use crate::inner::{Core, Status};
 use base::number::{BlockNo, LeafNo};
 use base::owner::{Back, Handle, Kind};
 use base::refusal::{PathRefusal, Refusal};

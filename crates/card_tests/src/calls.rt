@@ -3,7 +3,7 @@ use crate::counting::Counting;
 use base::number::LeafNo;
 use base::owner::Handle;
 use base::refusal::{PathRefusal, Refusal};
-use card::core::Core;
+use card::inner::Core;
 use card::open::open_card;
 use card::opened::open;
 use device::Device;

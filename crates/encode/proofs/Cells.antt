@@ -1,9 +1,9 @@
 -- The bytes of cells and of numbers.
-use Rattle.std.proofs.Common.{◌≡◌, ℕ, zero, suc, ◌+◌, ◌-◌, ◌*◌, ◌<◌, ◌≤◌, List, [], ◌∷◌, ◌++◌, map, length, get_or, take, drop, set, replicate, sym, refl, ap, ◌∙◌, append_assoc, add-one, arith, take-add}
+use Rattle.std.proofs.Common.{◌≡◌, ℕ, zero, suc, ◌+◌, ◌-◌, ◌*◌, ◌<◌, List, ◌++◌, length, take, drop, set, replicate, sym, refl, ap, ◌∙◌, append_assoc, arith, take-add}
 use lib.Seq.{take-append-add, drop-append-add}
 use borrow.Rule.Slice.PartMut.{put_mid}
-use Rattle.std.proofs.lemmas.List.{append-nil, take_all, take-append-le, drop-append-le, drop-drop, length-append, length-take-le, length-drop}
-use Rattle.layout.specs.Format.{Cell, cells_of, cells_bytes, numbers_bytes, padded}
+use Rattle.std.proofs.lemmas.List.{take_all, take-append-le, drop-append-le, drop-drop, length-append, length-take-le, length-drop}
+use Rattle.layout.specs.Format.{cells_of, cells_bytes, padded}
 use Rattle.layout.specs.Head.{cells}
 
 cells_of_bytes : (n : ℕ) (z : List ℕ) → cells_bytes (cells_of n z) ≡ take (32 * n) z

@@ -1,7 +1,7 @@
 -- What writes one after the other leave.
-use Rattle.std.proofs.Common.{◌≡◌, ℕ, ◌+◌, ◌-◌, ◌*◌, ◌<◌, ◌≤◌, List, [], ◌∷◌, ◌++◌, length, take, drop, replicate, sym, refl, ap, ◌∙◌, append_assoc, arith}
+use Rattle.std.proofs.Common.{◌≡◌, ℕ, ◌+◌, ◌-◌, List, ◌++◌, length, drop, replicate, refl, ap, ◌∙◌, arith}
 use borrow.Rule.Slice.PartMut.{put_mid, post_of}
-use Rattle.std.proofs.lemmas.List.{take_at, drop_at, drop-drop, drop-replicate}
+use Rattle.std.proofs.lemmas.List.{take_at, drop_at, drop-replicate}
 use Rattle.layout.specs.Format.{padded}
 
 -- a head and what follows it, written over zeros

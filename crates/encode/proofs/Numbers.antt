@@ -1,6 +1,6 @@
 -- The bytes of numbers, one more at a time.
-use Rattle.std.proofs.Common.{◌≡◌, ℕ, zero, suc, ◌+◌, ◌-◌, ◌*◌, ◌/◌, ◌%◌, ◌<◌, ◌≤◌, List, [], ◌∷◌, ◌++◌, map, length, get_or, take, drop, set, replicate, sym, refl, ap, ◌∙◌, append_assoc, add-one, arith}
-use Rattle.std.proofs.lemmas.List.{append-nil, set_at, map-set, drop_more, take_more, map_push, take_all, length-append, length-take-le, length-replicate, drop-replicate, replicate-append-replicate}
+use Rattle.std.proofs.Common.{◌≡◌, ℕ, suc, ◌+◌, ◌-◌, ◌*◌, ◌<◌, ◌≤◌, List, [], ◌∷◌, ◌++◌, length, get_or, take, drop, set, replicate, sym, refl, ap, ◌∙◌, append_assoc, arith}
+use Rattle.std.proofs.lemmas.List.{set_at, map-set, drop_more, take_more, map_push, take_all, length-append, length-take-le, length-replicate, drop-replicate, replicate-append-replicate}
 use Rattle.base.specs.declared.number.BlockNo.{BlockNo}
 use Rattle.layout.specs.Format.{two, numbers_bytes, padded}
 use Rattle.encode.specs.Heads.{plain, slot_head_bytes, Copied}

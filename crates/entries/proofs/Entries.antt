@@ -1,11 +1,11 @@
 -- A test of every byte, one more at a time, and an entry by its parts.
-use Rattle.std.proofs.Common.{◌≡◌, ℕ, zero, suc, ◌+◌, ◌-◌, ◌*◌, ◌<◌, ◌≤◌, Bool, true, false, cond, not, ◌&&◌, ◌||◌, eqb, ltb, leb, ◌⊎◌, List, [], ◌∷◌, length, get_or, take, drop, sym, refl, ap, ◌∙◌, subst, inl, inr, ⊎_elim, arith}
+use Rattle.std.proofs.Common.{◌≡◌, ℕ, ◌+◌, ◌-◌, ◌<◌, ◌≤◌, Bool, true, false, cond, not, ◌&&◌, ◌||◌, eqb, ltb, leb, ◌⊎◌, List, [], ◌∷◌, length, get_or, take, drop, sym, refl, ap, ◌∙◌, subst, inl, inr, ⊎_elim, arith}
 use native.Mathlib.Nat.{sub-zero}
 use Rattle.std.proofs.lemmas.List.{at_drop_more, take_rest, length-drop, length-take-le}
 use Rattle.std.proofs.lemmas.Bool.{eqb-true, eq-eqb, and_parts, and_from, and_right, cases_Bool, leb-true, ltb-true}
 use Rattle.std.proofs.lemmas.Bool.Decides.{nat_tests}
 use Rattle.base.specs.declared.owner.Handle.{Handle}
-use Rattle.layout.specs.Format.{Geometry, Cell, Entry, no_entry, le16, le32, plain_bytes, entry_fits, entry_of}
+use Rattle.layout.specs.Format.{Geometry, no_entry, le16, le32, plain_bytes, entry_fits, entry_of}
 use Rattle.layout.specs.Entries.{State, blank, well_formed, ill_formed, all_zero, child_at, name_at, used_state, entry_state, leads}
 use Rattle.entries.specs.View.{entry_head_fits}
 use Rattle.layout.specs.Laws.{Bytes, EntryRanged}

@@ -4,7 +4,7 @@ use anyhow::anyhow;
 use base::number::{LeafNo, SlotNo};
 use base::owner::{Handle, Kind};
 use base::refusal::Refusal;
-use card::core::Status;
+use card::inner::Status;
 use card::opened::{Opened, open};
 use device::Device;
 use device::plain::Plain;

@@ -14,7 +14,7 @@ use Rattle.rule.proofs.Means.{fits_at, leads_true, FirstSound, first_sound, reac
 use Rattle.marks.specs.declared.mark.SlotMark.{SlotMark}
 use Rattle.marks.specs.declared.mark.Marks.{Marks}
 use Rattle.marks.specs.Marks.{Agree, slot_line, slot_taken, body_taken, is_leaf, is_child}
-use Rattle.marks.specs.Laws.{Tells, MarksTell}
+use Rattle.marks.specs.Laws.{MarksTell}
 
 -- ---- tests
 

@@ -8,7 +8,7 @@ use Rattle.device.specs.declared.put.Put.{Put}
 use Rattle.layout.specs.Format.{Name, Cell, Geometry, handle, back, Slot, blank, file_body, folder_body, entry, entry_of, good_name, cell, blank_cell, leaf_limit}
 use Rattle.rule.specs.Agree.{View, seen, same_kind, count, number, good, Place, places, sound, found, first, free_slot, free_body, reached, some_is}
 use Rattle.rule.specs.Card.{Card, Plan}
-use Rattle.rule.specs.Reading.{fits, kind_is, named, child_of}
+use Rattle.rule.specs.Reading.{kind_is, named, child_of}
 use Rattle.rule.specs.Changing.{store, store_slot, changing, with_cell, open_place, untaken, placed, create, new_slot, grown, cut_to, keeps, replaces, appends, below_count, write, shorten, has_entries, remove, last_identity}
 use Rattle.rule.specs.Meaning.{Fits, Sound, Finds}
 use Rattle.rule.specs.Calls.{Standing, SoundAt, InPlace, OnNewLeaf, Replaces, Appends, CreateAccepted, WriteAccepted, ShortenAccepted, RemoveAccepted}

@@ -1,4 +1,4 @@
-use Rattle.std.proofs.Common.{[], ◌∷◌, get_or, sym, refl, ap, arith}
+use Rattle.std.proofs.Common.{[], ◌∷◌, get_or, refl, ap, arith}
 use Rattle.encode.proofs.Numbers.{one_more, all_written}
 use Rattle.encode.proofs.block.put_numbers.Goals as goal
 

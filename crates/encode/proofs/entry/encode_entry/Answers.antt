@@ -1,5 +1,5 @@
 use Rattle.std.proofs.Common.{length, sym, ap, ◌∙◌, arith}
-use Rattle.layout.specs.Format.{cell, entry_of}
+use Rattle.layout.specs.Format.{entry_of}
 use Rattle.layout.proofs.Back.{read_as_entry}
 use Rattle.encode.specs.Heads.{entry_head_bytes}
 use Rattle.encode.proofs.Filling.{framed}

@@ -1,4 +1,4 @@
-use Rattle.std.proofs.Common.{◌≡◌, ◌++◌, length, take, drop}
+use Rattle.std.proofs.Common.{◌≡◌, ◌++◌, take, drop}
 use Rattle.layout.specs.View.{all_numbers}
 use Rattle.encode.specs.Heads.{plain}
 use Rattle.encode.proofs.slot.copy_numbers.Given as goal

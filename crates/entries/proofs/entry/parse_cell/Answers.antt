@@ -1,5 +1,5 @@
 use Rattle.std.proofs.Common.{◌≡◌, length, sym, arith}
-use Rattle.layout.specs.Entries.{blank, entry_state}
+use Rattle.layout.specs.Entries.{blank}
 use Rattle.entries.specs.View.{cell_view}
 use Rattle.layout.specs.Sizes.{sizes}
 use Rattle.entries.proofs.Entries.{blank_state, other_state, state_led, ranged_state}

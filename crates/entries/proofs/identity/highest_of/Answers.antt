@@ -1,4 +1,4 @@
-use Rattle.std.proofs.Common.{◌+◌, max, drop, ap, ◌∙◌, arith}
+use Rattle.std.proofs.Common.{◌+◌, max, drop, ap, ◌∙◌}
 use Rattle.layout.specs.Identities.{highest_of}
 use Rattle.entries.proofs.Highest.{of_more, of_all, start}
 use Rattle.entries.proofs.identity.highest_of.Goals as goal

@@ -3,7 +3,7 @@ use Rattle.device.specs.Model.{Model}
 use Rattle.rule.specs.Changing.{last_identity}
 use Rattle.history.specs.Events.{State, Ends, surveyed}
 use Rattle.change.specs.declared.plan.Memory.{Memory}
-use Rattle.card.specs.declared.core.Core.{Core}
+use Rattle.card.specs.declared.inner.Core.{Core}
 use Rattle.card.specs.Progress.{progress_of, progress_at}
 use Rattle.card.specs.Valid.{Sees, Seen, Known}
 use Rattle.card.specs.Views.{Kept}

@@ -8,7 +8,7 @@ use Rattle.walk.proofs.Stills.{still}
 use Rattle.card.specs.Views.{ready_view}
 use Rattle.card.proofs.Cores.{core_exit, core_refused}
 use Rattle.card.proofs.Files.{read_short, read_unready, read_ready, leaf_quiet, fills_exit}
-use Rattle.card.proofs.core.Core.read.Goals as goal
+use Rattle.card.proofs.inner.Core.read.Goals as goal
 
 pub returns-then-buffer-lt496 : goal.returns-then-buffer-lt496
 returns-then-buffer-lt496 g c = record {

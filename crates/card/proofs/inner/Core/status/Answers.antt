@@ -9,7 +9,7 @@ use Rattle.walk.specs.Still.{shows}
 use Rattle.card.specs.Views.{ready_view, status_view}
 use Rattle.card.proofs.Quiet.{fits_quiet}
 use Rattle.card.proofs.Cores.{core_exit, core_refused, status_unready, status_refused, status_of}
-use Rattle.card.proofs.core.Core.status.Goals as goal
+use Rattle.card.proofs.inner.Core.status.Goals as goal
 
 pub returns-in_err-g : goal.returns-in_err-g
 returns-in_err-g g c = record {

@@ -6,7 +6,7 @@ use Rattle.walk.specs.Still.{shows}
 use Rattle.card.specs.Views.{ready_view}
 use Rattle.card.proofs.Quiet.{step_quiet}
 use Rattle.card.proofs.Cores.{core_exit, core_refused, find_bad, find_unready, find_ready}
-use Rattle.card.proofs.core.Core.find.Goals as goal
+use Rattle.card.proofs.inner.Core.find.Goals as goal
 
 pub returns-in_err-check_name : goal.returns-in_err-check_name
 returns-in_err-check_name g c = record {

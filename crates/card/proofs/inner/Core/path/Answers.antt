@@ -5,7 +5,7 @@ use Rattle.rule.specs.Agree.{root}
 use Rattle.rule.specs.Reading.{path, components}
 use Rattle.walk.specs.Still.{shows}
 use Rattle.card.proofs.Walks.{ready_ok, path_bad, path_unready, path_ready, path_exit, path_stopped, walk_quiet}
-use Rattle.card.proofs.core.Core.path.Goals as goal
+use Rattle.card.proofs.inner.Core.path.Goals as goal
 
 pub returns-in_err-check_path : goal.returns-in_err-check_path
 returns-in_err-check_path g c = record {
