@@ -1,13 +1,13 @@
 -- A reading call of a card, by what the walk answers.
-use Rattle.std.proofs.Common.{◌≡◌, ℕ, ◌<◌, ◌≤◌, Bool, true, false, cond, eqb, ◌⊎◌, Ok, Err, Result, sym, refl, ap, ◌∙◌, subst, inl, inr, arith}
-use Rattle.std.proofs.lemmas.Bool.{cond-true, cond-false, ne_eqb}
+use Rattle.std.proofs.Common.{◌≡◌, ℕ, cond, eqb, Ok, Err, Result, sym, refl, ap, ◌∙◌, subst, inl, inr, arith}
+use Rattle.std.proofs.lemmas.Bool.{cond-false, ne_eqb}
 use Rattle.base.specs.Refusals.{number_of}
 use Rattle.base.specs.declared.number.BlockNo.{BlockNo}
 use Rattle.base.specs.declared.owner.Handle.{Handle}
 use Rattle.base.specs.declared.refusal.Refusal.{Refusal}
 use Rattle.base.specs.declared.refusal.Refusal.TheVariants.{PowerGone}
 use Rattle.device.specs.Answers.{refusal_of}
-use Rattle.device.specs.Model.{Model, Lost}
+use Rattle.device.specs.Model.{Model}
 use Rattle.device.specs.declared.fault.Fault.{Fault}
 use Rattle.device.specs.declared.fault.Fault.TheVariants.{PowerGone as Gone, NoSuchBlock}
 use Rattle.layout.specs.Format.{Geometry, Name, Slot}
@@ -16,13 +16,13 @@ use Rattle.layout.specs.declared.geometry.Geometry.{Geometry as CardGeometry}
 use Rattle.rule.specs.Agree.{Shown, seen, count}
 use Rattle.rule.specs.Card.{Ready, opening, surveyed}
 use Rattle.rule.specs.Card.{opened as rule_opened}
-use Rattle.rule.specs.Check.{Answer, ◌>>=◌}
-use Rattle.rule.specs.Reading.{named, step, find, fits, status, Status}
+use Rattle.rule.specs.Check.{Answer}
+use Rattle.rule.specs.Reading.{named, step, find, fits, status}
 use Rattle.history.specs.Events.{Reads, opened}
 use Rattle.history.specs.Events.{surveyed as on_survey}
 use Rattle.marks.specs.declared.mark.Marks.{Marks}
 use Rattle.change.specs.declared.plan.Memory.{Memory}
-use Rattle.walk.specs.Still.{Still, Failed, Refused}
+use Rattle.walk.specs.Still.{Failed, Refused}
 use Rattle.walk.proofs.Stills.{still}
 use Rattle.walk.proofs.Stepping.{bind_ok, bind_err}
 use Rattle.card.specs.Views.{Kept, ready_view, Fitting}

@@ -1,5 +1,5 @@
 -- Reading a leaf, one check after another.
-use Rattle.std.proofs.Common.{◌≡◌, ℕ, ◌-◌, ◌<◌, ◌≤◌, min, Bool, true, false, cond, ◌&&◌, ltb, leb, ◌⊎◌, List, ◌++◌, length, take, drop, Some, None, Ok, Err, Option, Result, sym, refl, ap, ◌∙◌, subst, inl, inr, arith}
+use Rattle.std.proofs.Common.{◌≡◌, ℕ, ◌-◌, ◌<◌, ◌≤◌, min, true, ltb, leb, List, ◌++◌, length, take, drop, Some, None, Ok, Err, Option, Result, sym, refl, ap, ◌∙◌, subst, inl, inr, arith}
 use Rattle.std.proofs.lemmas.List.{length-take, take_all}
 use Rattle.std.proofs.lemmas.Bool.{and_parts, lt-ltb, le-ltb, le-leb, lt-leb, cases_lt}
 use Rattle.base.specs.declared.number.BlockNo.{BlockNo}
@@ -8,10 +8,10 @@ use Rattle.base.specs.declared.owner.Kind.TheVariants.{File, Folder}
 use Rattle.base.specs.declared.owner.Handle.{Handle}
 use Rattle.base.specs.declared.refusal.Refusal.{Refusal}
 use Rattle.base.specs.declared.refusal.Refusal.TheVariants.{NoSuchLeaf, LeafNotGood, BadLength}
-use Rattle.layout.specs.Format.{Geometry, Slot, Content, back, file_body, folder_body}
+use Rattle.layout.specs.Format.{Geometry, Slot, back}
 use Rattle.rule.specs.Agree.{Shown, View, seen, count, number, good, names, same_kind}
 use Rattle.rule.specs.Card.{Ready, block}
-use Rattle.rule.specs.Check.{Answer, ◌>>=◌, check}
+use Rattle.rule.specs.Check.{Answer}
 use Rattle.rule.specs.Meaning.{Body}
 use Rattle.rule.specs.Reading.{fits, kind_is, reading, bytes_in, read}
 use Rattle.card.proofs.Quiet.{Quiet, ok_quiet, check_quiet, bind_quiet, reading_quiet}
@@ -20,7 +20,7 @@ use Rattle.walk.specs.Copies.{front, Holds, LeafIs}
 use Rattle.walk.specs.declared.leaf.LeafCopy.{LeafCopy}
 use Rattle.walk.proofs.Stepping.{bind_ok, bind_err, check_ok, check_err, kind_ok, kind_err, reading_ok, reading_err}
 use Rattle.card.specs.Calls.{Fills}
-use Rattle.card.specs.Files.{leaf_of, leaf_bytes}
+use Rattle.card.specs.Files.{leaf_bytes}
 
 no_ok : {A B E : Type 0} {a : B} {e : E} → Err e ≡ Ok a → A
 no_ok q = let z : ◌≡◌ {A = ℕ} 0 1 = cc in absurd (omega arith)

@@ -1,15 +1,13 @@
 -- Opening, one check after another.
-use Rattle.std.proofs.Common.{◌≡◌, ℕ, ◌+◌, ◌<◌, ◌≤◌, Bool, true, false, cond, ◌&&◌, eqb, ltb, leb, ◌⊎◌, Some, None, Ok, Err, Option, sym, refl, ap, ◌∙◌, subst, inl, inr, arith}
+use Rattle.std.proofs.Common.{◌≡◌, ℕ, ◌+◌, ◌<◌, ◌≤◌, Bool, true, false, ◌&&◌, ltb, leb, Some, None, Ok, Err, Option, sym, refl, ap, ◌∙◌, inl, inr, arith}
 use Rattle.std.specs.Option.{option_map}
 use Rattle.std.proofs.lemmas.Bool.{and_parts, cond-true, leb-true, le-leb, lt-leb, lt-ltb, le-ltb}
-use Rattle.base.specs.declared.number.BlockNo.{BlockNo}
 use Rattle.base.specs.declared.refusal.Refusal.{Refusal}
-use Rattle.base.specs.declared.refusal.Refusal.TheVariants.{PowerGone, BadCard, SmallDevice}
+use Rattle.base.specs.declared.refusal.Refusal.TheVariants.{BadCard, SmallDevice}
 use Rattle.device.specs.Model.{Model, Lost, Block}
-use Rattle.layout.specs.Format.{Geometry, Content, Slot, cover, ill_formed, cover_of, in_limits}
+use Rattle.layout.specs.Format.{Geometry, Slot, cover, ill_formed, cover_of, in_limits}
 use Rattle.rule.specs.Agree.{Shown, View, seen, slot_at, slot_in, some_is}
 use Rattle.rule.specs.Card.{Ready, block, is_root, geometry_in, opening, surveyed}
-use Rattle.rule.specs.Check.{◌>>=◌, check, demand}
 use Rattle.walk.specs.Copies.{copied}
 use Rattle.walk.specs.Still.{Still, shows}
 use Rattle.walk.specs.declared.slot.SlotCopy.{SlotCopy}

@@ -1,5 +1,5 @@
 -- One block examined more.
-use Rattle.std.proofs.Common.{◌≡◌, ℕ, suc, ◌+◌, ◌-◌, ◌<◌, ◌≤◌, max, Bool, true, false, cond, ltb, ◌⊎◌, length, Ok, Err, Result, sym, refl, ap, ◌∙◌, subst, inl, inr, arith}
+use Rattle.std.proofs.Common.{◌≡◌, ℕ, suc, ◌+◌, ◌-◌, ◌<◌, max, ltb, length, Ok, Err, Result, sym, refl, ap, ◌∙◌, subst, inl, inr, arith}
 use Rattle.std.proofs.lemmas.Bool.{cases_lt, lt-ltb, cond-true}
 use Rattle.base.specs.declared.number.Identity.{Identity}
 use Rattle.device.specs.Model.{Model, Block}
@@ -8,8 +8,8 @@ use Rattle.layout.specs.Format.{Geometry, parse}
 use Rattle.layout.specs.Identities.{told}
 use Rattle.layout.specs.Sizes.{sizes}
 use Rattle.layout.specs.declared.geometry.Geometry.{Geometry as CardGeometry}
-use Rattle.rule.specs.Agree.{Shown, View, seen}
-use Rattle.rule.specs.Card.{Ready, Opened, Surveying, examined, survey_step, surveyed}
+use Rattle.rule.specs.Agree.{Shown, seen}
+use Rattle.rule.specs.Card.{Opened, Surveying, examined, survey_step, surveyed}
 use Rattle.rule.proofs.Answered.{steps_agree}
 use Rattle.survey.specs.Survey.{Sofar}
 use Rattle.survey.specs.declared.survey.Survey.{Survey}

@@ -9,7 +9,6 @@ use Rattle.layout.specs.Format.{Name}
 use Rattle.rule.specs.Agree.{Shown}
 use Rattle.rule.specs.Card.{Card}
 use Rattle.rule.specs.Changing.{create, write, shorten, remove}
-use Rattle.rule.specs.Check.{check}
 use Rattle.rule.specs.Reading.{named}
 use Rattle.walk.proofs.Stepping.{bind_ok, bind_err, check_ok, check_err}
 

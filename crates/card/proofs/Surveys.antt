@@ -1,5 +1,5 @@
 -- A step of the survey, and its end.
-use Rattle.std.proofs.Common.{◌≡◌, ℕ, suc, ◌+◌, ◌-◌, ◌<◌, ◌≤◌, max, cond, eqb, ltb, ◌⊎◌, [], length, Ok, Err, sym, refl, ap, ◌∙◌, subst, inl, inr, arith}
+use Rattle.std.proofs.Common.{◌≡◌, ℕ, suc, ◌+◌, ◌-◌, ◌<◌, ◌≤◌, max, cond, eqb, ltb, ◌⊎◌, Ok, Err, sym, refl, ap, ◌∙◌, subst, inl, inr, arith}
 use Rattle.std.proofs.lemmas.Bool.{cond-true, cond-false, lt-ltb, le-ltb}
 use Rattle.base.specs.Refusals.{number_of}
 use Rattle.base.specs.declared.number.BlockNo.{BlockNo}
@@ -31,7 +31,7 @@ use Rattle.walk.proofs.Stills.{still}
 use Rattle.change.specs.Plans.{card_view}
 use Rattle.change.specs.declared.plan.Memory.{Memory}
 use Rattle.card.specs.Progress.{Progress, Learned, so_far}
-use Rattle.card.specs.Valid.{Sees, Seen, Knows, Known}
+use Rattle.card.specs.Valid.{Sees, Seen, Known}
 use Rattle.card.specs.Views.{Kept, ready_view}
 use Rattle.card.proofs.Cores.{still_sees, gone_seen}
 use Rattle.card.proofs.Plans.{view, gone_known}

@@ -1,10 +1,10 @@
 -- Sync and space of a surveyed card.
-use Rattle.std.proofs.Common.{◌≡◌, ℕ, cond, eqb, ◌⊎◌, Ok, Err, sym, refl, ap, ◌∙◌, subst, inl, inr}
+use Rattle.std.proofs.Common.{◌≡◌, ℕ, cond, eqb, Ok, Err, sym, refl, ap, ◌∙◌, subst, inl, inr}
 use Rattle.base.specs.Refusals.{number_of}
 use Rattle.base.specs.declared.refusal.Refusal.{Refusal}
 use Rattle.base.specs.declared.refusal.Refusal.TheVariants.{PowerGone}
 use Rattle.device.specs.Answers.{refusal_of, SyncAnswer, SyncFault}
-use Rattle.device.specs.Model.{Model, Kept, Lost}
+use Rattle.device.specs.Model.{Model, Lost}
 use Rattle.device.specs.declared.fault.Fault.{Fault}
 use Rattle.device.specs.declared.fault.Fault.TheVariants.{PowerGone as Met, NoSuchBlock}
 use Rattle.device.specs.declared.fault.Synced.{Synced}

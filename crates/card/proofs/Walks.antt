@@ -1,5 +1,5 @@
 -- A path on a card, by what the walk answers.
-use Rattle.std.proofs.Common.{◌≡◌, ℕ, suc, ◌<◌, ◌≤◌, Bool, true, false, cond, eqb, ◌⊎◌, List, [], ◌∷◌, Ok, Err, Result, sym, refl, ap, ◌∙◌, subst, inl, inr, arith}
+use Rattle.std.proofs.Common.{◌≡◌, ℕ, suc, cond, eqb, List, [], ◌∷◌, Ok, Err, Result, sym, refl, ap, ◌∙◌, subst, inl, inr, arith}
 use Rattle.std.proofs.lemmas.Bool.{cond-false, ne_eqb}
 use Rattle.base.specs.Refusals.{number_of}
 use Rattle.base.specs.declared.number.BlockNo.{BlockNo}
@@ -18,7 +18,7 @@ use Rattle.rule.specs.Agree.{Shown, View, seen, root}
 use Rattle.rule.specs.Card.{Ready}
 use Rattle.rule.specs.Check.{Answer, ◌>>=◌}
 use Rattle.rule.specs.Reading.{step, components, at_component, all_named, walk, path}
-use Rattle.walk.specs.Still.{Still, Failed, PathRefused}
+use Rattle.walk.specs.Still.{Failed, PathRefused}
 use Rattle.walk.proofs.Stills.{still}
 use Rattle.walk.proofs.Stepping.{bind_ok, bind_err}
 use Rattle.card.specs.Views.{Kept, ready_view, Fitting}

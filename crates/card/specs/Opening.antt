@@ -2,14 +2,13 @@
 use Rattle.std.specs.Prelude.{◌≡◌, ℕ, ◌≤◌, Bool, ◌&&◌, ◌⊎◌, Ok, Err, MatchResult, ◌==◌, nat_le}
 use Rattle.base.specs.declared.number.BlockNo.{BlockNo}
 use Rattle.base.specs.declared.owner.Kind.TheVariants.{Folder}
-use Rattle.base.specs.declared.refusal.Refusal.{Refusal}
 use Rattle.base.specs.declared.refusal.Refusal.TheVariants.{PowerGone, BadCard, SmallDevice}
 use Rattle.device.specs.Model.{Model, Lost}
 use Rattle.layout.specs.Format.{Geometry, Slot}
 use Rattle.layout.specs.Sizes.{sizes}
 use Rattle.rule.specs.Agree.{Shown, seen, same_kind, same_handle, root}
 use Rattle.rule.specs.Card.{Ready, block, is_root}
-use Rattle.rule.specs.Check.{Answer, ◌>>=◌, check}
+use Rattle.rule.specs.Check.{◌>>=◌, check}
 use Rattle.walk.specs.Still.{Still}
 use Rattle.card.specs.Views.{Kept}
 

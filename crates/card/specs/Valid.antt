@@ -1,5 +1,5 @@
 -- What holds of every card that there is: opening or the end of the survey gives it, and every call keeps it.
-use Rattle.std.specs.Prelude.{◌≡◌, ℕ, ◌≤◌, Ok, Err}
+use Rattle.std.specs.Prelude.{◌≡◌, ◌≤◌, Ok, Err}
 use Rattle.device.specs.Model.{Model}
 use Rattle.layout.specs.Sizes.{sizes}
 use Rattle.layout.specs.declared.geometry.Geometry.{Geometry as CardGeometry}

@@ -1,5 +1,5 @@
 -- What a card in the code stands for.
-use Rattle.std.specs.Prelude.{◌≡◌, ℕ, ◌≤◌, List, Ok, Err, Result}
+use Rattle.std.specs.Prelude.{ℕ, ◌≤◌, Ok, Err, Result}
 use Rattle.base.specs.declared.refusal.Refusal.{Refusal}
 use Rattle.layout.specs.Sizes.{sizes}
 use Rattle.layout.specs.declared.geometry.Geometry.{Geometry as CardGeometry}

@@ -1,5 +1,5 @@
 -- The blocks of a new card, one by one.
-use Rattle.std.proofs.Common.{◌≡◌, ℕ, zero, suc, ◌+◌, ◌-◌, ◌<◌, ◌≤◌, Bool, true, false, cond, ◌&&◌, ltb, leb, ◌⊎◌, List, [], ◌∷◌, length, get_or, None, Ok, Err, sym, refl, ap, ◌∙◌, subst, inl, inr, arith}
+use Rattle.std.proofs.Common.{◌≡◌, ℕ, zero, suc, ◌+◌, ◌-◌, ◌<◌, ◌≤◌, Bool, true, false, ◌&&◌, ltb, leb, ◌⊎◌, List, [], ◌∷◌, length, get_or, None, Ok, Err, sym, refl, ap, ◌∙◌, subst, inl, inr, arith}
 use Rattle.std.proofs.lemmas.Bool.{lt-ltb, lt-leb, le-leb, leb-true, and_parts, cond-true}
 use Rattle.base.specs.declared.refusal.Refusal.{Refusal}
 use Rattle.base.specs.declared.refusal.Refusal.TheVariants.{BadLimits, SmallDevice}
@@ -10,7 +10,7 @@ use Rattle.device.specs.declared.fault.Fault.{Fault}
 use Rattle.device.specs.declared.fault.Fault.TheVariants.{PowerGone as Gone, NoSuchBlock}
 use Rattle.device.specs.declared.fault.Synced.{Synced}
 use Rattle.device.specs.declared.put.Put.{Put}
-use Rattle.layout.specs.Format.{Geometry, blank, cover, slotted, in_limits, encode}
+use Rattle.layout.specs.Format.{Geometry, blank, in_limits, encode}
 use Rattle.rule.specs.Agree.{from}
 use Rattle.rule.specs.Card.{block}
 use Rattle.rule.specs.Changing.{store, blanks, format, synced}

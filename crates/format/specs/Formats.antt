@@ -1,5 +1,5 @@
 -- What a format leaves, by its answer.
-use Rattle.std.specs.Prelude.{◌≡◌, ℕ, zero, suc, ◌-◌, ◌⊎◌, List, [], ◌∷◌, Ok, Err}
+use Rattle.std.specs.Prelude.{◌≡◌, ℕ, zero, suc, ◌-◌, ◌⊎◌, List, ◌∷◌, Ok, Err}
 use Rattle.base.specs.declared.number.BlockNo.{BlockNo}
 use Rattle.base.specs.declared.owner.Kind.TheVariants.{Folder}
 use Rattle.base.specs.declared.refusal.Refusal.TheVariants.{PowerGone}

@@ -19,7 +19,7 @@ use Rattle.rule.proofs.Steps.{clash}
 use Rattle.rule.proofs.Plans.{clash_ok, bind_ok}
 use Rattle.rule.proofs.Blocks.{format_means}
 use Rattle.rule.proofs.Answered.{opening_means, step_ok, find_means, read_means}
-use Rattle.history.specs.Events.{Phase, closed, opened, surveyed, State, Has, find, read}
+use Rattle.history.specs.Events.{Phase, closed, opened, surveyed, State, Has}
 use Rattle.history.specs.History.{Formatted, Moment, present, History, Deed, gives}
 use Rattle.history.specs.Laws.{Made, OnTheWay, ReadsWhatWasWritten, FindsWhatWasMade, PathsLeadToWhatWasMade, FormattedCardsOpen, SurveyedCardsKeepTrue}
 use Rattle.layout.proofs.Back.{read_as}

@@ -13,7 +13,7 @@ use Rattle.device.specs.declared.fault.Synced.{Synced}
 use Rattle.device.specs.declared.fault.Synced.TheVariants.{Settled as SettledAnswer, Unsure}
 use Rattle.layout.specs.Format.{Name, Geometry, Content, cover, cover_of}
 use Rattle.layout.specs.Identities.{told}
-use Rattle.rule.specs.Agree.{Shown, seen, from, root}
+use Rattle.rule.specs.Agree.{Shown, seen, from}
 use Rattle.rule.specs.Check.{Answer}
 use Rattle.rule.specs.Card.{Ready, Card, Plan, Opened, Surveying, lost, lost_opened, geometry_in, opening, examined, survey_step, highest_of, ended_by}
 use Rattle.rule.specs.Card as rule_of_card
@@ -32,7 +32,7 @@ use Rattle.history.proofs.Written.{parse_cover, parse_beyond}
 use Rattle.history.proofs.Log.{did, same_apart}
 use Rattle.history.proofs.Stands.{May, view, may_shown, only_may, may_fewer, Carded, Inv}
 use Rattle.history.proofs.Sorts.{Fair}
-use Rattle.history.proofs.Puts.{write_fair, shorten_fair, create_fair, fresh, remove_fair}
+use Rattle.history.proofs.Puts.{write_fair, shorten_fair, create_fair, remove_fair}
 
 -- ---- the two sorts of step
 

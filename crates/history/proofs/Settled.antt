@@ -7,7 +7,6 @@ use Rattle.device.specs.Answers.{SyncAnswer}
 use Rattle.device.specs.declared.fault.Synced.{Synced}
 use Rattle.device.specs.declared.fault.Synced.TheVariants.{Settled as SettledAnswer, Unsure}
 use Rattle.layout.specs.Format.{Name, Geometry, back, Slot, Content, slotted}
-use Rattle.layout.specs.Identities.{told}
 use Rattle.rule.specs.Agree.{count, number, root}
 use Rattle.rule.specs.Card.{Ready}
 use Rattle.rule.specs.Reading.{components, Status}

@@ -1,5 +1,5 @@
 -- A leaf that was written reads back.
-use Rattle.std.proofs.Common.{◌≡◌, ℕ, suc, ◌<◌, ◌≤◌, ◌⊎◌, List, sym, refl, ap, ◌∙◌, subst, inl, inr, arith}
+use Rattle.std.proofs.Common.{◌≡◌, ℕ, suc, ◌<◌, List, sym, ap, ◌∙◌, subst, inl, inr, arith}
 use Rattle.base.specs.declared.owner.Handle.{Handle}
 use Rattle.device.specs.Effect.{puts}
 use Rattle.layout.specs.Format.{Geometry, Slot, back, slotted, file_body}
@@ -7,7 +7,6 @@ use Rattle.rule.specs.Agree.{Shown, View, seen, count, number}
 use Rattle.rule.specs.Calls.{Writes, Replaces, Appends}
 use Rattle.rule.specs.Card.{Card, Plan}
 use Rattle.rule.specs.Changing.{grown}
-use Rattle.rule.specs.Meaning.{Fits}
 use Rattle.rule.specs.Readings.{Reads}
 use Rattle.rule.proofs.Answered.{read_means}
 use Rattle.moves.specs.Tied.{Tied}

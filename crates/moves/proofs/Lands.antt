@@ -1,11 +1,11 @@
 -- What a call writes reads back as it was meant, and keeps what a card and its blocks have in common.
-use Rattle.std.proofs.Common.{◌≡◌, ℕ, zero, suc, ◌+◌, ◌<◌, ◌≤◌, true, ◌&&◌, eqb, leb, List, [], ◌∷◌, ◌++◌, length, take, set, replicate, sym, refl, ap, ◌∙◌, subst, inl, inr, arith, length-set, length-take}
-use Rattle.std.proofs.lemmas.Bool.{cases_eq, and_from, and_parts, eqb-true, eq-eqb, ne_eqb, lt-ltb, leb-true, cond-true, cond-false}
+use Rattle.std.proofs.Common.{◌≡◌, ℕ, suc, ◌+◌, ◌<◌, ◌≤◌, true, ◌&&◌, eqb, leb, List, [], ◌∷◌, ◌++◌, length, take, set, replicate, sym, refl, ap, ◌∙◌, subst, inl, inr, arith, length-set, length-take}
+use Rattle.std.proofs.lemmas.Bool.{cases_eq, and_from, and_parts, eqb-true, eq-eqb, ne_eqb, leb-true, cond-true, cond-false}
 use Rattle.base.specs.declared.owner.Kind.{Kind}
 use Rattle.base.specs.declared.owner.Kind.TheVariants.{Folder}
 use Rattle.base.specs.declared.owner.Handle.{Handle}
 use Rattle.device.specs.Model.{Block, put}
-use Rattle.layout.specs.Format.{Name, Cell, Geometry, back, Slot, Content, blank, slotted, file_body, folder_body, entry, in_limits, body_number, all_bodies, plain_bytes, good_name, cell, blank_cell, parse, encode, entry_of}
+use Rattle.layout.specs.Format.{Name, Cell, Geometry, back, Slot, Content, blank, slotted, file_body, folder_body, entry, in_limits, all_bodies, plain_bytes, good_name, cell, blank_cell, parse, encode, entry_of}
 use Rattle.layout.specs.Identities.{entry_told, told}
 use Rattle.layout.specs.Laws.{SlotFits, BackFits, whole_cells}
 use Rattle.layout.proofs.Back.{read_back, entry_back, set_whole}

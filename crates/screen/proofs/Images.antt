@@ -1,9 +1,9 @@
 -- What holds of an image that is only looked at.
-use Rattle.std.proofs.Common.{◌≡◌, ℕ, ◌+◌, ◌-◌, ◌*◌, ◌<◌, ◌≤◌, min, Bool, true, false, cond, not, eqb, ◌⊎◌, List, [], ◌∷◌, length, take, drop, Some, None, Option, sym, refl, ap, ◌∙◌, subst, inl, inr, arith}
+use Rattle.std.proofs.Common.{◌≡◌, ℕ, ◌+◌, ◌-◌, ◌*◌, ◌<◌, min, Bool, true, false, cond, not, eqb, ◌⊎◌, List, [], ◌∷◌, length, take, drop, Some, None, Option, sym, refl, ap, ◌∙◌, subst, inl, inr, arith}
 use mathlib.Core.Path.{fun_ext}
 use Rattle.std.proofs.lemmas.List.{take_all, drop_all, length-drop, length-take}
-use Rattle.std.proofs.lemmas.Bool.{cases_lt, eq-eqb, eqb-true, cond-true}
-use Rattle.device.specs.Model.{Model, Block, In, OnlyShown, Stands, Is, put, Kept, Stayed, Lost, Written, Torn, Settled}
+use Rattle.std.proofs.lemmas.Bool.{cases_lt, eq-eqb, eqb-true}
+use Rattle.device.specs.Model.{Model, Block, In, OnlyShown, Stands, Is, Stayed, Lost, Written, Torn, Settled}
 use Rattle.device.specs.Plain.{block, blocks_in}
 use Rattle.device.specs.declared.put.Put.{Put}
 use Rattle.rule.specs.Agree.{same_bytes}

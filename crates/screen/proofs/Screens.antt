@@ -1,9 +1,8 @@
 -- One leaf, check after check; and that a leaf number past 65,535 is refused as any past the count is.
-use Rattle.std.proofs.Common.{◌≡◌, ℕ, ◌<◌, ◌≤◌, min, Bool, true, false, ltb, leb, ◌⊎◌, List, length, Ok, Err, Result, sym, refl, ap, ◌∙◌, subst, inl, inr, arith}
+use Rattle.std.proofs.Common.{◌≡◌, ℕ, ◌<◌, ◌≤◌, min, Bool, true, false, ltb, leb, List, length, Ok, Err, Result, sym, refl, ap, ◌∙◌, subst, inl, inr, arith}
 use Rattle.std.proofs.lemmas.Bool.{lt-leb, le-leb, le-ltb, cases_lt}
 use Rattle.base.specs.declared.owner.Kind.TheVariants.{File}
 use Rattle.base.specs.declared.owner.Handle.{Handle}
-use Rattle.base.specs.declared.refusal.Refusal.{Refusal}
 use Rattle.base.specs.declared.refusal.Refusal.TheVariants.{BadLength, NoSuchLeaf}
 use Rattle.base.specs.declared.refusal.PathRefusal.{PathRefusal}
 use Rattle.layout.specs.Format.{Geometry, Slot}
@@ -11,7 +10,6 @@ use Rattle.rule.specs.Agree.{Shown, seen, count}
 use Rattle.rule.specs.Card.{Ready}
 use Rattle.rule.specs.Check.{Answer, ◌>>=◌, check}
 use Rattle.rule.specs.Reading.{components, all_named, path, read, reading, read_into}
-use Rattle.rule.specs.Meaning.{Fits}
 use Rattle.rule.proofs.Formed.{slot_formed, file_formed}
 use Rattle.rule.proofs.Answered.{read_means, reading_ok}
 use Rattle.walk.proofs.Stepping.{bind_ok, bind_err, check_ok, check_err}

@@ -1,12 +1,12 @@
 -- A card on an image that is only looked at never meets power gone.
-use Rattle.std.proofs.Common.{◌≡◌, ℕ, ◌⊎◌, List, None, Option, Result, sym, refl, ap, ◌∙◌, subst, inl, inr}
+use Rattle.std.proofs.Common.{◌≡◌, ℕ, List, None, Option, Result, sym, ap, ◌∙◌, inl, inr}
 use Rattle.base.specs.declared.number.BlockNo.{BlockNo}
 use Rattle.device.specs.Model.{Model, Block, OnlyShown, Kept}
 use Rattle.device.specs.Plain.{block, blocks_in}
 use Rattle.device.specs.declared.put.Put.{Put}
 use Rattle.rule.specs.Agree.{Shown}
 use Rattle.rule.specs.Card.{Ready, Opened, opening}
-use Rattle.history.specs.Events.{Phase, Opens, Reads, closed, opened}
+use Rattle.history.specs.Events.{Opens, Reads, closed, opened}
 use Rattle.screen.specs.Image.{differs, looked_at}
 use Rattle.screen.proofs.Images.{on_only, never_lost}
 

@@ -1,5 +1,5 @@
 -- What the words of a script mean.
-use Rattle.std.specs.Prelude.{◌≡◌, ℕ, ◌+◌, ◌-◌, ◌*◌, ◌<◌, Bool, true, false, cond, List, [], ◌∷◌, length, Some, None, fold, Option, ◌==◌, ◌≢◌, nat_le, slice_index}
+use Rattle.std.specs.Prelude.{ℕ, ◌+◌, ◌-◌, ◌*◌, ◌<◌, Bool, true, false, cond, List, length, Some, None, fold, Option, ◌==◌, ◌≢◌, nat_le, slice_index}
 
 abbrev pub within : ℕ → ℕ → ℕ → Bool
 within low high b = cond (nat_le low b) (nat_le b high) false

@@ -6,7 +6,7 @@ use Rattle.std.proofs.lemmas.Bool.{and_left, ltb-true, le-ltb, cond-false}
 use Rattle.base.specs.declared.owner.Kind.TheVariants.{File, Folder}
 use Rattle.base.specs.declared.owner.Handle.{Handle}
 use Rattle.base.specs.declared.owner.Back.{Back}
-use Rattle.layout.specs.Format.{Name, Geometry, Content, blank, cover, slotted, file_body, folder_body, ill_formed, body_number, back}
+use Rattle.layout.specs.Format.{Name, Geometry, Content, blank, cover, slotted, file_body, folder_body, ill_formed, body_number}
 use Rattle.rule.specs.Agree.{Shown, View, seen, slot_at, number, good, back_in, given, names}
 use Rattle.rule.specs.Meaning.{Sound}
 use Rattle.rule.proofs.Steps.{clash, clash_none, back_same}

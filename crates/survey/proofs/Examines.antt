@@ -17,7 +17,7 @@ use Rattle.survey.specs.declared.survey.Survey.{Survey}
 use Rattle.survey.specs.Known.{kept, child_of, is_leaf, line_by, links, links_by}
 use Rattle.survey.specs.Survey.{leaf_line, Linked, Sofar}
 use Rattle.survey.proofs.Begins.{line_none, sound_among}
-use Rattle.survey.proofs.Links.{Marked, One, Via, links_length, links_old, links_was, links_has}
+use Rattle.survey.proofs.Links.{Marked, Via, links_length, links_old, links_was, links_has}
 use Rattle.survey.proofs.Leaves.{line_is, leaf_owned, owned_leaf}
 
 -- any other block is examined or not, as before

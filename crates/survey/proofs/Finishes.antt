@@ -5,7 +5,7 @@ use Rattle.std.proofs.lemmas.Bool.{cases_lt, and_parts, and_right, ltb-true, lt-
 use Rattle.base.specs.declared.owner.Back.{Back}
 use Rattle.base.specs.declared.owner.Handle.{Handle}
 use Rattle.layout.specs.Format.{Geometry, Slot, handle}
-use Rattle.rule.specs.Agree.{View, slot_at, number, good, some_is, given, back_in, parent_of, climbs, reached, held}
+use Rattle.rule.specs.Agree.{View, slot_at, number, good, some_is, given, back_in, parent_of, climbs, reached}
 use Rattle.rule.proofs.Steps.{clash}
 use Rattle.rule.proofs.Means.{fits_at, parent_from, parent_parts}
 use Rattle.marks.specs.declared.mark.SlotMark.{SlotMark}

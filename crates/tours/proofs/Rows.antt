@@ -6,7 +6,7 @@ use Rattle.base.specs.declared.owner.Kind.TheVariants.{File, Folder}
 use Rattle.base.specs.declared.owner.Handle.{Handle}
 use Rattle.layout.specs.Format.{Geometry, Name, Cell, Slot, Entry, entry, entry_of, back}
 use Rattle.layout.specs.Head.{cells}
-use Rattle.rule.specs.Agree.{View, Place, those, from, some_is, given, slot_at, same_handle, agrees, sound, good, names, number, count, cells_in, places_of, places_over, places}
+use Rattle.rule.specs.Agree.{View, Place, those, from, some_is, given, slot_at, same_handle, agrees, sound, good, names, number, count, cells_in, places_of, places_over}
 use Rattle.rule.specs.Meaning.{Body}
 use Rattle.rule.specs.Reading.{entry_line}
 use Rattle.rule.proofs.Steps.{clash_none, names_true}

@@ -1,17 +1,16 @@
 -- What is copied out of a block.
-use Rattle.std.proofs.Common.{◌≡◌, ℕ, zero, suc, ◌+◌, ◌-◌, ◌*◌, ◌/◌, ◌<◌, ◌≤◌, Bool, true, false, cond, ◌&&◌, eqb, ltb, leb, ◌⊎◌, List, [], ◌∷◌, ◌++◌, length, get_or, take, drop, Some, None, Option, sym, refl, ap, ◌∙◌, subst, inl, inr, arith, MatchOption}
-use Rattle.std.specs.Option.{option_map}
+use Rattle.std.proofs.Common.{◌≡◌, ℕ, ◌+◌, ◌-◌, ◌*◌, ◌/◌, ◌<◌, ◌≤◌, Bool, true, false, cond, ◌&&◌, eqb, ltb, leb, ◌⊎◌, List, ◌++◌, length, get_or, Some, None, Option, sym, refl, ap, ◌∙◌, subst, inl, inr, arith, MatchOption}
 use Rattle.std.proofs.lemmas.List.{get_or_past, take_at, length-append}
-use Rattle.std.proofs.lemmas.Bool.{cases_lt, cases_Bool, cond-true, cond-false, and_left, and_right, and_from, and_parts, lt-ltb, ltb-true, ltb-false, leb-false, and_cases}
+use Rattle.std.proofs.lemmas.Bool.{cases_lt, and_right, and_from, and_parts, lt-ltb, ltb-true, ltb-false, leb-false, and_cases}
 use Rattle.base.specs.declared.owner.Kind.{Kind}
 use Rattle.base.specs.declared.owner.Kind.TheVariants.{File, Folder}
 use Rattle.base.specs.declared.owner.Handle.{Handle}
 use Rattle.base.specs.declared.owner.Back.{Back}
 use Rattle.device.specs.Model.{Block}
-use Rattle.layout.specs.Format.{Geometry, Slot, Content, blank, cover, slotted, file_body, folder_body, ill_formed, back, le16, numbers_of, body_number, slot_of, slot_fits, cover_of, in_limits, region, Region, cover_region, slot_region, body_region, beyond, by_kind, parse}
+use Rattle.layout.specs.Format.{Geometry, Slot, Content, blank, ill_formed, back, le16, numbers_of, body_number, slot_of, slot_fits, cover_of, in_limits, cover_region, slot_region, body_region, beyond, by_kind, parse}
 use Rattle.layout.specs.View.{all_numbers, SlotSized}
 use Rattle.layout.proofs.Numbers.{part_numbers, number_at, length_numbers}
-use Rattle.rule.specs.Agree.{Shown, View, seen, number, count, names, good}
+use Rattle.rule.specs.Agree.{Shown, seen, number, count, names}
 use Rattle.walk.specs.declared.slot.SlotCopy.{SlotCopy}
 use Rattle.walk.specs.declared.leaf.LeafCopy.{LeafCopy}
 use Rattle.walk.specs.Copies.{copied, Holds, LeafIs}

@@ -1,16 +1,13 @@
 -- The search for a name, cell by cell and leaf by leaf.
-use Rattle.std.proofs.Common.{◌≡◌, ℕ, zero, suc, ◌+◌, ◌-◌, ◌*◌, ◌/◌, ◌<◌, ◌≤◌, Bool, true, false, cond, ◌&&◌, eqb, ltb, leb, ◌⊎◌, List, [], ◌∷◌, ◌++◌, length, get_or, take, drop, Some, None, Decides, Option, sym, refl, ap, ◌∙◌, subst, inl, inr, add-one, arith, MatchOption}
-use Rattle.std.specs.Option.{option_map}
+use Rattle.std.proofs.Common.{◌≡◌, ℕ, suc, ◌+◌, ◌-◌, ◌<◌, ◌≤◌, Bool, true, false, cond, ◌&&◌, eqb, ltb, List, [], ◌∷◌, ◌++◌, length, get_or, take, drop, Some, None, Decides, Option, sym, refl, ap, ◌∙◌, subst, inl, inr, add-one, arith}
 use Rattle.std.proofs.lemmas.List.{drop_more, drop_all}
-use Rattle.std.proofs.lemmas.Bool.{cases_lt, cases_Bool, cond-true, cond-false, and_left, and_right, and_from, and_parts}
-use Rattle.base.specs.declared.owner.Kind.{Kind}
+use Rattle.std.proofs.lemmas.Bool.{cases_Bool, cond-true, cond-false, and_from, and_parts}
 use Rattle.base.specs.declared.owner.Kind.TheVariants.{File, Folder}
 use Rattle.base.specs.declared.owner.Handle.{Handle}
-use Rattle.base.specs.declared.owner.Back.{Back}
-use Rattle.layout.specs.Format.{Geometry, Name, Cell, Slot, Content, Entry, entry, no_entry, entry_of, folder_body, file_body, back}
-use Rattle.rule.specs.Agree.{Shown, View, seen, Place, first, has_name, agrees, good, number, cells_in, places_of, places_over, places, from, some_is, given, slot_at, same_handle, same_bytes, names, count}
+use Rattle.layout.specs.Format.{Geometry, Name, Cell, Slot, Content, Entry, entry, entry_of, back}
+use Rattle.rule.specs.Agree.{Shown, View, seen, Place, first, has_name, agrees, good, number, cells_in, places_of, places_over, from, some_is, given, slot_at, same_handle, same_bytes, names, count}
 use Rattle.rule.specs.Meaning.{Body}
-use Rattle.rule.proofs.Steps.{clash, clash_none, bytes_true, bytes_refl, first_append, given_some, cond_some, names_true}
+use Rattle.rule.proofs.Steps.{clash, clash_none, bytes_true, bytes_refl, first_append, cond_some, names_true}
 use Rattle.layout.specs.Head.{cells}
 use Rattle.walk.specs.Copies.{child_slot, front, Holds, LeafIs}
 use Rattle.walk.specs.declared.leaf.LeafCopy.{LeafCopy}

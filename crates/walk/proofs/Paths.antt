@@ -1,7 +1,7 @@
 -- A path, name by name.
-use Rattle.std.proofs.Common.{◌≡◌, ℕ, zero, suc, ◌+◌, ◌-◌, ◌<◌, ◌≤◌, Bool, true, false, cond, eqb, leb, ◌⊎◌, List, [], ◌∷◌, length, get_or, take, drop, Ok, Err, Result, sym, refl, ap, ◌∙◌, subst, inl, inr, add-one, arith, MatchResult}
+use Rattle.std.proofs.Common.{◌≡◌, ℕ, suc, ◌+◌, ◌-◌, ◌<◌, ◌≤◌, Bool, true, false, cond, eqb, leb, List, [], ◌∷◌, length, get_or, take, drop, Ok, Err, Result, sym, refl, ap, ◌∙◌, subst, inl, inr, add-one, arith, MatchResult}
 use Rattle.std.proofs.lemmas.List.{drop_more, drop_all, drop-drop, length-drop}
-use Rattle.std.proofs.lemmas.Bool.{cases_Bool, cases_lt, cond-true, cond-false, eq-eqb, ne_eqb, le-leb, lt-leb}
+use Rattle.std.proofs.lemmas.Bool.{cases_lt, cond-true, cond-false, eq-eqb, ne_eqb, le-leb, lt-leb}
 use Rattle.base.specs.declared.owner.Handle.{Handle}
 use Rattle.base.specs.declared.refusal.Refusal.{Refusal}
 use Rattle.base.specs.declared.refusal.Refusal.TheVariants.{BadName}
@@ -10,10 +10,10 @@ use Rattle.device.specs.Model.{Model}
 use Rattle.layout.specs.Format.{Name, Geometry, Slot, good_name}
 use Rattle.layout.specs.declared.geometry.Geometry.{Geometry as CardGeometry}
 use Rattle.rule.specs.Agree.{Shown, View, seen, root}
-use Rattle.rule.specs.Check.{Answer, ◌>>=◌, check}
+use Rattle.rule.specs.Check.{Answer}
 use Rattle.rule.specs.Reading.{fits, step, named, longer, parted, components, at_component, all_named, walk}
 use Rattle.walk.specs.Paths.{name_end, names_from}
-use Rattle.walk.specs.Still.{Still, Failed, Gives, PathGives, PathRefused}
+use Rattle.walk.specs.Still.{Still, Gives, PathGives, PathRefused}
 use Rattle.walk.specs.Stepping.{entered, Enters}
 use Rattle.walk.specs.Copies.{copied}
 use Rattle.walk.specs.declared.entry.Found.{Found}

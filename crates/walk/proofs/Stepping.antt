@@ -1,24 +1,22 @@
 -- Handles and steps, one check after another.
-use Rattle.std.proofs.Common.{◌≡◌, ℕ, Bool, true, false, cond, ◌&&◌, eqb, ◌⊎◌, Some, None, Ok, Err, Option, Result, sym, refl, ap, ◌∙◌, subst, inl, inr, arith}
+use Rattle.std.proofs.Common.{◌≡◌, Bool, true, false, cond, ◌&&◌, eqb, Some, None, Ok, Err, Option, Result, sym, refl, ap, ◌∙◌, subst, inl, inr}
 use Rattle.std.specs.Option.{option_map}
 use Rattle.std.proofs.lemmas.Bool.{eq-eqb, ne_eqb, eqb-true, and_parts}
 use Rattle.base.specs.declared.owner.Kind.{Kind}
-use Rattle.base.specs.declared.owner.Kind.TheVariants.{File, Folder}
+use Rattle.base.specs.declared.owner.Kind.TheVariants.{Folder}
 use Rattle.base.specs.declared.owner.Handle.{Handle}
 use Rattle.base.specs.declared.refusal.Refusal.{Refusal}
 use Rattle.base.specs.declared.refusal.Refusal.TheVariants.{NoSuchHandle, WrongKind, NoSuchName}
-use Rattle.device.specs.Answers.{refusal_of}
 use Rattle.device.specs.Model.{Model}
-use Rattle.device.specs.declared.fault.Fault.{Fault}
-use Rattle.layout.specs.Format.{Geometry, Name, Slot, Entry, entry, entry_of}
+use Rattle.layout.specs.Format.{Geometry, Name, Slot, Entry}
 use Rattle.layout.specs.declared.geometry.Geometry.{Geometry as CardGeometry}
-use Rattle.rule.specs.Agree.{Shown, View, seen, Place, found, same_kind, same_handle, slot_at, given}
+use Rattle.rule.specs.Agree.{Shown, View, seen, found, same_kind, same_handle, slot_at}
 use Rattle.rule.specs.Check.{Answer, ◌>>=◌, check, demand}
 use Rattle.rule.specs.Reading.{fits, kind_is, reading, step, child_of}
 use Rattle.rule.proofs.Steps.{given_some, cond_some}
 use Rattle.walk.specs.Copies.{copied, child_slot}
-use Rattle.walk.specs.Finding.{FoundAt, FirstIs}
-use Rattle.walk.specs.Still.{Still, Failed, Refused, Gives}
+use Rattle.walk.specs.Finding.{FirstIs}
+use Rattle.walk.specs.Still.{Still, Refused, Gives}
 use Rattle.walk.specs.Stepping.{stepped, entered, Enters}
 use Rattle.walk.specs.declared.entry.Found.{Found}
 use Rattle.walk.specs.declared.slot.SlotCopy.{SlotCopy}

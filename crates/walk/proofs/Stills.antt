@@ -1,7 +1,7 @@
 -- One read after another.
-use Rattle.std.proofs.Common.{◌≡◌, ℕ, ◌<◌, ◌≤◌, Ok, Err, Result, sym, refl, ◌∙◌, arith}
+use Rattle.std.proofs.Common.{◌<◌, Ok, Err, Result, sym, refl, ◌∙◌, arith}
 use Rattle.base.specs.declared.number.BlockNo.{BlockNo}
-use Rattle.device.specs.Model.{Model, Kept, Stayed, Lost}
+use Rattle.device.specs.Model.{Model, Kept, Stayed}
 use Rattle.device.specs.Answers.{ReadFault}
 use Rattle.device.specs.declared.fault.Fault.{Fault}
 use Rattle.device.specs.declared.fault.Fault.TheVariants.{PowerGone, NoSuchBlock}

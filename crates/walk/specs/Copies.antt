@@ -1,5 +1,5 @@
 -- What the copies of slots and leaves stand for, which are taken out of a block before the next is read.
-use Rattle.std.specs.Prelude.{◌≡◌, ℕ, Bool, true, false, cond, ◌&&◌, List, take, Some, None, Option, MatchOption, ◌==◌}
+use Rattle.std.specs.Prelude.{◌≡◌, ℕ, true, false, cond, ◌&&◌, List, take, Some, None, Option, MatchOption, ◌==◌}
 use Rattle.std.specs.Option.{option_map}
 use Rattle.base.specs.declared.owner.Handle.{Handle}
 use Rattle.layout.specs.Format.{Geometry, Slot, Content, blank, cover, slotted, file_body, folder_body, ill_formed, numbers_of}

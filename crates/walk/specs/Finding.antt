@@ -1,8 +1,8 @@
 -- The first sound entry with a name, as the code answers it.
 use Rattle.std.specs.Prelude.{◌≡◌, ℕ, Bool, true, false, cond, ◌&&◌, List, [], Some, None, Option, MatchOption}
 use Rattle.base.specs.declared.owner.Handle.{Handle}
-use Rattle.layout.specs.Format.{Geometry, Name, Cell, Slot, Entry, entry, entry_of}
-use Rattle.rule.specs.Agree.{View, Place, first, has_name, agrees, good, number, cells_in, places_of, places}
+use Rattle.layout.specs.Format.{Geometry, Name, Cell, Slot, entry, entry_of}
+use Rattle.rule.specs.Agree.{View, Place, first, has_name, agrees, good, number, cells_in, places_of}
 use Rattle.walk.specs.Copies.{copied, child_slot}
 use Rattle.walk.specs.declared.entry.Child.{Child}
 use Rattle.walk.specs.declared.entry.Found.{Found}

@@ -1,9 +1,8 @@
 -- Calls that only read: what is shown stays, contents that may stand may be dropped.
-use Rattle.std.specs.Prelude.{◌≡◌, ℕ, ◌<◌, ◌⊎◌, Err, Result, MatchResult}
+use Rattle.std.specs.Prelude.{◌≡◌, ◌<◌, ◌⊎◌, Err, Result, MatchResult}
 use Rattle.device.specs.Model.{Model, Kept, Lost}
 use Rattle.device.specs.declared.fault.Fault.{Fault}
 use Rattle.device.specs.declared.fault.Fault.TheVariants.{PowerGone, NoSuchBlock}
-use Rattle.layout.specs.Format.{Geometry}
 use Rattle.layout.specs.Sizes.{sizes}
 use Rattle.layout.specs.declared.geometry.Geometry.{Geometry as CardGeometry}
 use Rattle.rule.specs.Agree.{View, seen}

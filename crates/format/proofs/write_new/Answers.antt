@@ -1,7 +1,6 @@
-use Rattle.std.proofs.Common.{◌≡◌, ◌<◌, ◌≤◌, [], length, take, arith}
+use Rattle.std.proofs.Common.{◌≡◌, ◌<◌, [], length, take, arith}
 use Rattle.std.proofs.lemmas.List.{take_all}
 use Rattle.std.proofs.lemmas.Result.{err_from_is_err_and}
-use Rattle.device.specs.Effect.{Altered, accepted}
 use Rattle.device.proofs.Effects.{altered_none, altered_more, refused_at}
 use Rattle.device.specs.declared.put.Put.{Put}
 use Rattle.layout.specs.Sizes.{sizes}

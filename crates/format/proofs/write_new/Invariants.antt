@@ -1,4 +1,4 @@
-use Rattle.std.proofs.Common.{◌≤◌, take}
+use Rattle.std.proofs.Common.{take}
 use Rattle.device.specs.Effect.{Altered, accepted}
 use Rattle.layout.specs.Sizes.{sizes}
 use Rattle.format.specs.Formats.{new_card}

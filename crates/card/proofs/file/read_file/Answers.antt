@@ -1,4 +1,4 @@
-use Rattle.std.proofs.Common.{◌≡◌, sym, ap, ◌∙◌, subst, inl, arith}
+use Rattle.std.proofs.Common.{subst, inl, arith}
 use Rattle.std.proofs.lemmas.Result.{err_from_is_err_and}
 use Rattle.layout.specs.Sizes.{sizes}
 use Rattle.layout.proofs.Numbers.{length_numbers}

@@ -1,4 +1,4 @@
-use Rattle.std.proofs.Common.{sym, inl, arith}
+use Rattle.std.proofs.Common.{inl, arith}
 use Rattle.layout.specs.Sizes.{sizes}
 use Rattle.walk.specs.Still.{shows}
 use Rattle.walk.proofs.Stills.{still}

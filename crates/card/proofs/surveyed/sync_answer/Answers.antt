@@ -1,4 +1,4 @@
-use Rattle.std.proofs.Common.{sym, refl, ap}
+use Rattle.std.proofs.Common.{sym, ap}
 use Rattle.rule.specs.Changing.{synced}
 use Rattle.card.proofs.surveyed.sync_answer.Goals as goal
 

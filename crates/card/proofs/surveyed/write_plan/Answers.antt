@@ -1,4 +1,4 @@
-use Rattle.std.proofs.Common.{◌≡◌, ◌-◌, List, take, drop, ap, subst, arith}
+use Rattle.std.proofs.Common.{◌≡◌, ◌-◌, List, take, ap, subst, arith}
 use Rattle.std.proofs.lemmas.Result.{err_from_is_err_and}
 use Rattle.device.specs.Effect.{Altered, accepted, WriteAllFault}
 use Rattle.device.specs.declared.put.Put.{Put}

@@ -1,7 +1,6 @@
-use Rattle.std.proofs.Common.{◌≡◌, ℕ, ◌+◌, ◌≤◌, List, length, sym, ap, ◌∙◌, arith}
+use Rattle.std.proofs.Common.{ℕ, ◌+◌, ◌≤◌, length, sym, ap, ◌∙◌, arith}
 use Rattle.device.specs.Plain.{block, blocks_in}
 use Rattle.rule.specs.Card.{opening}
-use Rattle.rule.specs.Check.{Answer}
 use Rattle.rule.specs.Reading.{read_into}
 use Rattle.screen.specs.Screen.{told}
 use Rattle.screen.proofs.Screens.{leaf_few, narrowed}

@@ -1,11 +1,11 @@
-use Rattle.std.proofs.Common.{[], get_or, drop, sym, refl, ap, ◌∙◌, subst, arith}
+use Rattle.std.proofs.Common.{[], get_or, ◌∙◌, subst, arith}
 use Rattle.layout.specs.Head.{cells}
 use Rattle.layout.specs.Sizes.{sizes}
 use Rattle.layout.proofs.Cells.{length_cells}
 use Rattle.rule.specs.Agree.{Shown, seen}
 use Rattle.walk.specs.Finding.{CellIs}
 use Rattle.walk.specs.Still.{shows}
-use Rattle.walk.proofs.Stills.{still, still_then}
+use Rattle.walk.proofs.Stills.{still_then}
 use Rattle.walk.proofs.Finding.{place_found, place_next, cells_all}
 use Rattle.walk.proofs.entry.find_in_leaf.Goals as goal
 

@@ -1,7 +1,5 @@
-use Rattle.std.proofs.Common.{sym, ◌∙◌, inl}
 use Rattle.std.proofs.lemmas.Result.{err_from_is_err_and}
 use Rattle.layout.specs.Sizes.{sizes}
-use Rattle.walk.specs.Copies.{copied}
 use Rattle.walk.specs.Still.{shows}
 use Rattle.walk.proofs.Stepping.{step_err, step_refused, step_enters, refused_as, gives_then, gives_exit}
 use Rattle.walk.proofs.handle.find_child.Goals as goal

@@ -1,5 +1,4 @@
-use Rattle.std.proofs.Common.{sym, ap}
-use Rattle.rule.specs.Reading.{at_component}
+use Rattle.std.proofs.Common.{sym}
 use Rattle.walk.proofs.Paths.{component_ok, component_err}
 use Rattle.walk.proofs.path.at_component.Goals as goal
 

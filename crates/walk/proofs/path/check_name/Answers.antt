@@ -1,4 +1,4 @@
-use Rattle.std.proofs.Common.{sym, ap}
+use Rattle.std.proofs.Common.{sym}
 use Rattle.walk.proofs.Paths.{named_ok, named_err}
 use Rattle.walk.proofs.path.check_name.Goals as goal
 

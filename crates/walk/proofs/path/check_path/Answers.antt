@@ -1,7 +1,6 @@
-use Rattle.std.proofs.Common.{◌≡◌, List, [], sym, refl, ap, ◌∙◌, arith, rules}
+use Rattle.std.proofs.Common.{ap, ◌∙◌, arith, rules}
 use Rattle.std.proofs.lemmas.Result.{err_from_is_err_and}
-use Rattle.layout.specs.Format.{Name}
-use Rattle.rule.specs.Reading.{all_named, components}
+use Rattle.rule.specs.Reading.{all_named}
 use Rattle.walk.proofs.Paths.{names_more, names_none, names_all, names_empty, all_named_ok, all_named_err, all_named_none, checked_exit}
 use Rattle.walk.proofs.path.check_path.Goals as goal
 

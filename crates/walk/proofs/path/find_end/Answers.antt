@@ -1,4 +1,4 @@
-use Rattle.std.proofs.Common.{sym, ap, ◌∙◌, arith}
+use Rattle.std.proofs.Common.{arith}
 use Rattle.walk.proofs.Paths.{end_here, end_later, end_past}
 use Rattle.walk.proofs.path.find_end.Goals as goal
 

@@ -1,8 +1,8 @@
-use Rattle.std.proofs.Common.{◌≡◌, List, [], sym, refl, ap, ◌∙◌, subst, arith}
+use Rattle.std.proofs.Common.{ap, ◌∙◌, arith}
 use Rattle.std.proofs.lemmas.Result.{err_from_is_err_and}
 use Rattle.layout.specs.Sizes.{sizes}
-use Rattle.rule.specs.Agree.{Shown, seen, root}
-use Rattle.rule.specs.Reading.{walk, components}
+use Rattle.rule.specs.Agree.{root}
+use Rattle.rule.specs.Reading.{walk}
 use Rattle.walk.specs.Copies.{copied}
 use Rattle.walk.specs.Still.{shows}
 use Rattle.walk.proofs.Stills.{still, still_then}

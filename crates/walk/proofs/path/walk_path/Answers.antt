@@ -1,9 +1,8 @@
-use Rattle.std.proofs.Common.{◌≡◌, Ok, sym, refl, ap, ◌∙◌, subst, rules}
+use Rattle.std.proofs.Common.{ap, ◌∙◌, rules}
 use Rattle.std.proofs.lemmas.Result.{err_from_is_err_and}
 use Rattle.layout.specs.Sizes.{sizes}
 use Rattle.rule.specs.Agree.{Shown, seen, root}
-use Rattle.rule.specs.Reading.{walk, components, fits}
-use Rattle.walk.specs.Copies.{copied}
+use Rattle.rule.specs.Reading.{walk, components}
 use Rattle.walk.specs.Still.{shows}
 use Rattle.walk.proofs.Stills.{still}
 use Rattle.walk.proofs.Paths.{names_empty, walk_none, walk_root, path_refused, path_exit, path_then}

@@ -1,5 +1,5 @@
-use Rattle.std.proofs.Common.{◌≡◌, ℕ, ◌/◌, List, ◌++◌, length, sym, ap, ◌∙◌}
-use Rattle.layout.specs.Format.{slotted, numbers_of}
+use Rattle.std.proofs.Common.{ℕ, List, ap}
+use Rattle.layout.specs.Format.{slotted}
 use Rattle.walk.proofs.Copying.{numbers_copied}
 use Rattle.walk.proofs.slot.copy_slot.Goals as goal
 

@@ -1,4 +1,4 @@
-use Rattle.std.proofs.Common.{length, Ok, Err, sym, refl, ap, ◌∙◌, subst, inl, arith}
+use Rattle.std.proofs.Common.{length, Ok, Err, sym, refl, ap, ◌∙◌, inl, arith}
 use Rattle.std.proofs.lemmas.Result.{err_from_is_err_and}
 use Rattle.layout.specs.Sizes.{sizes}
 use Rattle.rule.specs.Reading.{read}

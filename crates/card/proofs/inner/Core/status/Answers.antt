@@ -1,10 +1,9 @@
-use Rattle.std.proofs.Common.{ℕ, Ok, Err, Result, sym, refl, ap, ◌∙◌, inl}
+use Rattle.std.proofs.Common.{ℕ, Ok, sym, refl, ap, ◌∙◌, inl}
 use Rattle.std.specs.Result.{result_map_both}
 use Rattle.std.proofs.lemmas.Result.{err_from_is_err_and}
 use Rattle.layout.specs.Sizes.{sizes}
 use Rattle.layout.proofs.Numbers.{length_numbers}
-use Rattle.rule.specs.Check.{Answer}
-use Rattle.rule.specs.Reading.{status, Status}
+use Rattle.rule.specs.Reading.{status}
 use Rattle.walk.specs.Still.{shows}
 use Rattle.card.specs.Views.{ready_view, status_view}
 use Rattle.card.proofs.Quiet.{fits_quiet}

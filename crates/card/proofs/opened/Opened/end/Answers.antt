@@ -1,7 +1,5 @@
-use Rattle.std.proofs.Common.{◌≡◌, ◌≤◌, sym, refl, ap, ◌∙◌, subst, arith}
-use Rattle.device.specs.Model.{Model}
-use Rattle.rule.specs.Changing.{last_identity}
-use Rattle.history.specs.Events.{State, Ends, surveyed}
+use Rattle.std.proofs.Common.{sym, ap, ◌∙◌, subst}
+use Rattle.history.specs.Events.{Ends, surveyed}
 use Rattle.change.specs.declared.plan.Memory.{Memory}
 use Rattle.card.specs.declared.inner.Core.{Core}
 use Rattle.card.specs.Progress.{progress_of, progress_at}

@@ -1,4 +1,4 @@
-use Rattle.std.proofs.Common.{◌≡◌, ℕ, ◌-◌, ◌≤◌, Some, Err, Option, sym, refl, ap, ◌∙◌, subst, arith}
+use Rattle.std.proofs.Common.{◌≡◌, ℕ, Some, Err, Option, sym, refl, ap, ◌∙◌, subst, arith}
 use Rattle.std.proofs.lemmas.Result.{err_from_is_err_and}
 use Rattle.std.specs.Option.{option_map}
 use Rattle.base.specs.declared.owner.Handle.{Handle}
@@ -10,16 +10,13 @@ use Rattle.rule.specs.Changing.{open_place, new_slot}
 use Rattle.walk.specs.Still.{shows}
 use Rattle.card.specs.Views.{gained_block}
 use Rattle.layout.specs.Sizes.{sizes}
-use Rattle.marks.specs.Marks.{Agree}
 use Rattle.marks.specs.declared.mark.Marks.{Marks}
-use Rattle.moves.specs.Marking.{Room}
 use Rattle.moves.proofs.Follows.{create_marks}
 use Rattle.moves.proofs.Lines.{room_stays}
 use Rattle.moves.proofs.Stays.{create_stays_tied}
 use Rattle.rule.specs.Card.{Plan}
 use Rattle.rule.specs.Changing as changing
 use Rattle.change.specs.Plans.{card_view, plan_view}
-use Rattle.change.specs.declared.plan.Memory.{Memory}
 use Rattle.card.specs.Valid.{Knows, Known}
 use Rattle.card.specs.Views.{ready_view}
 use Rattle.card.proofs.Insides.{create_inside}

@@ -1,4 +1,4 @@
-use Rattle.std.proofs.Common.{◌≡◌, ◌-◌, ◌≤◌, Err, sym, refl, ap, ◌∙◌, subst, arith}
+use Rattle.std.proofs.Common.{◌≡◌, Err, sym, refl, ap, ◌∙◌, subst, arith}
 use Rattle.std.proofs.lemmas.Result.{err_from_is_err_and}
 use Rattle.std.specs.Option.{option_map}
 use Rattle.layout.specs.Format.{back}
@@ -8,16 +8,13 @@ use Rattle.rule.specs.Agree.{count}
 use Rattle.walk.specs.Still.{shows}
 use Rattle.card.specs.Views.{block_number}
 use Rattle.layout.specs.Sizes.{sizes}
-use Rattle.marks.specs.Marks.{Agree}
 use Rattle.marks.specs.declared.mark.Marks.{Marks}
-use Rattle.moves.specs.Marking.{Room}
 use Rattle.moves.proofs.Follows.{write_marks}
 use Rattle.moves.proofs.Lines.{room_stays}
 use Rattle.moves.proofs.Stays.{write_stays_tied}
 use Rattle.rule.specs.Card.{Plan}
 use Rattle.rule.specs.Changing as changing
 use Rattle.change.specs.Plans.{card_view, plan_view}
-use Rattle.change.specs.declared.plan.Memory.{Memory}
 use Rattle.card.specs.Valid.{Knows, Known}
 use Rattle.card.specs.Views.{ready_view}
 use Rattle.card.proofs.Insides.{write_inside}

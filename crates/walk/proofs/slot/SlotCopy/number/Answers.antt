@@ -1,4 +1,4 @@
-use Rattle.std.proofs.Common.{◌≡◌, sym, ap, ◌∙◌, arith, rules}
+use Rattle.std.proofs.Common.{sym, ◌∙◌, arith, rules}
 use Rattle.walk.proofs.Copying.{number_none, number_here}
 use Rattle.walk.proofs.slot.SlotCopy.number.Goals as goal
 
