@@ -31,12 +31,6 @@ abbrev pub kept_after : Result ℕ Refusal → Kept → Kept
 kept_after (Ok n) c = c
 kept_after (Err e) c = cond (number_of e == 1) (Err e) c
 
--- the answer is the rule's and nothing changed; or power gone was met, of which `met` says how it is told, and the card keeps it
-abbrev pub CoreReads : {A E : Type 0} → (BlockNo → E) → (Ready → Shown → Result A E) → Kept → Model → Result A E → Kept → Model → Type 0
-CoreReads met rule c m r d n =
-    (Still m n × (r ≡ rule (ready_view c) m.shown) × (d ≡ c))
-    ⊎ ((b : BlockNo) × (g : CardGeometry) × (c ≡ Ok g) × (r ≡ Err (met b)) × Lost m n × (d ≡ Err (PowerGone b)))
-
 -- the answer is the rule's and nothing changed; or power gone was met, and the card keeps it
 abbrev pub ReadsOn : {A : Type 0} → (Ready → Shown → Answer A) → Kept → Model → Answer A → Kept → Model → Type 0
 ReadsOn rule c m a d n =

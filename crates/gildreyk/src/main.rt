@@ -15,11 +15,11 @@ const HELP: &str = "gildreyk: looks into a stand's card
   gildreyk all IMAGE      both
   gildreyk help           this text";
 
-// The bytes of the image that the next word names.
-fn load(rt: &HostRuntime, name: Option<String>) -> anyhow::Result<Vec<u8>> {
+// The bytes of the image that the word behind a command names.
+fn load(rt: &HostRuntime, command: &str, name: Option<String>) -> anyhow::Result<Vec<u8>> {
     match name {
         Some(path) => Ok(fs::read(rt, path.as_str())?),
-        None => Err(anyhow!("name an image")),
+        None => Err(anyhow!("{command}: name an image")),
     }
 }
 
@@ -31,10 +31,10 @@ fn run(rt: &HostRuntime) -> anyhow::Result<()> {
         return Ok(println!(rt; "{HELP}")?);
     };
     match command.as_str() {
-        "blocks" => blocks::print(rt, load(rt, words.next())?.as_slice()),
-        "tree" => tree::print(rt, load(rt, words.next())?.as_mut_slice()),
+        "blocks" => blocks::print(rt, load(rt, "blocks", words.next())?.as_slice()),
+        "tree" => tree::print(rt, load(rt, "tree", words.next())?.as_mut_slice()),
         "all" => {
-            let mut image = load(rt, words.next())?;
+            let mut image = load(rt, "all", words.next())?;
             blocks::print(rt, image.as_slice())?;
             tree::print(rt, image.as_mut_slice())
         }

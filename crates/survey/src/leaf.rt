@@ -13,7 +13,12 @@ use layout::geometry::Geometry;
 use walk::slot::{SlotCopy, slot_in};
 
 // Remembers the slot in block `at`, if it is well formed.
-pub fn keep_slot(slots: &mut [Option<SlotCopy>; 256], g: &Geometry, at: BlockNo, block: &[u8; 512])
+pub(crate) fn keep_slot(
+    slots: &mut [Option<SlotCopy>; 256],
+    g: &Geometry,
+    at: BlockNo,
+    block: &[u8; 512],
+)
     requires { (0 < at.0) × (at.0 ≤ 256) }
     ensures { (o : Maybe SlotCopy) × (option_map copied o ≡ slot_there (parsed (sizes g.now) at.0 block.now)) × (slots.new ≡ slice_set slots.old (at.0 - 1) o) }
 {

@@ -54,7 +54,7 @@ fn link_cell(
 }
 
 // The same for all the cells of a good leaf of the folder.
-pub fn link_cells(
+pub(crate) fn link_cells(
     slots: &[Option<SlotCopy>; 256],
     linked: &mut [bool; 256],
     g: &Geometry,
