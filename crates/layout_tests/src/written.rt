@@ -34,7 +34,7 @@ fn small_blocks(rt: HostRuntime) -> Result<(), Fail> {
     };
     let mut block = [7; 512];
     encode_cover(&mut block, &g);
-    assert!(rt; &block[0..8] == [1, 1, 8, 0, 3, 0, 0, 0]);
+    assert!(rt; &block[0..8] == [1, 1, 8, 0, 3, 0, 0, 0].as_slice());
     assert_eq!(rt; block[511], 0);
     encode_blank(&mut block);
     assert_eq!(rt; block[0], 0);
@@ -54,7 +54,9 @@ fn slot_and_body(rt: HostRuntime) {
             &[BlockNo(5)],
         )
     );
-    assert!(rt; &block[0..20] == [2, 0, 1, 0, 2, 0, 0, 0, 1, 0, 0, 0, 0, 0, 0, 0, 5, 0, 0, 0]);
+    assert!(rt;
+        &block[0..20] == [2, 0, 1, 0, 2, 0, 0, 0, 1, 0, 0, 0, 0, 0, 0, 0, 5, 0, 0, 0].as_slice()
+    );
     assert_eq!(rt; block[511], 0);
     assert!(rt;
         !encode_slot(
@@ -72,6 +74,7 @@ fn slot_and_body(rt: HostRuntime) {
             == [
                 4, 0, 1, 0, 2, 0, 0, 0, 0, 0, 3, 0, 0, 0, 0, 0, 65, 66, 67, 0,
             ]
+            .as_slice()
     );
     assert!(rt; encode_file_body(&mut block, &back(0), &[1; 496]));
     assert!(rt; !encode_file_body(&mut block, &back(0), &[1; 497]));
@@ -82,15 +85,15 @@ fn folder(rt: HostRuntime) -> Result<(), Fail> {
     let Some(cell) = encode_entry(b"alto", &handle(1, 258)) else {
         return Err(Fail::new("name"));
     };
-    assert!(rt; &cell[0..13] == [4, 0, 1, 0, 2, 1, 0, 0, 97, 108, 116, 111, 0]);
+    assert!(rt; &cell[0..13] == [4, 0, 1, 0, 2, 1, 0, 0, 97, 108, 116, 111, 0].as_slice());
     assert!(rt; encode_entry(b"a/b", &handle(1, 2)).is_none());
     let mut block = [7; 512];
     assert!(rt; encode_folder_body(&mut block, &back(1), &[9; 480]));
-    assert!(rt; &block[0..17] == [5, 0, 1, 0, 2, 0, 0, 0, 1, 0, 224, 1, 0, 0, 0, 0, 9]);
-    assert!(rt; &block[495..512] == [9, 0, 0, 0, 0, 0, 0, 0, 0, 0, 0, 0, 0, 0, 0, 0, 0]);
+    assert!(rt; &block[0..17] == [5, 0, 1, 0, 2, 0, 0, 0, 1, 0, 224, 1, 0, 0, 0, 0, 9].as_slice());
+    assert!(rt; &block[495..512] == [9, 0, 0, 0, 0, 0, 0, 0, 0, 0, 0, 0, 0, 0, 0, 0, 0].as_slice());
     assert!(rt; encode_folder_change(&mut block, &back(1), &[8; 480], 2, &cell));
     assert_eq!(rt; block[79], 8);
-    assert!(rt; &block[80..112] == cell);
+    assert!(rt; &block[80..112] == cell.as_slice());
     assert_eq!(rt; block[112], 8);
     assert!(rt; !encode_folder_change(&mut block, &back(1), &[8; 480], 15, &cell));
     assert!(rt; !encode_folder_change(&mut block, &back(1), &[8; 479], 2, &cell));
