@@ -1,5 +1,5 @@
 // Why a call was refused. Each case has one number and one layer, and carries the place that its number tells.
-ghost use Rattle.std.specs.Prelude.{◌≡◌};
+ghost use Rattle.std.specs.Prelude.{◌≡◌, ◌==◌};
 ghost use Rattle.base.specs.Refusals.{number_of, layer_of, place_of};
 
 use crate::number::{BlockNo, LeafNo, SlotNo};
@@ -79,6 +79,13 @@ impl Refusal {
             Refusal::BadLimits(_) => 18,
             Refusal::NoSuchBlock(_) => 19,
         }
+    }
+
+    // Whether the device has no power: a card keeps this refusal and answers each later call with it.
+    pub fn is_power_gone(&self) -> bool
+        ensures { result ≡ (number_of self.now == 1) }
+    {
+        matches!(self, Refusal::PowerGone(_))
     }
 
     pub fn layer(&self) -> Layer

@@ -11,7 +11,7 @@ use Rattle.rule.proofs.Steps.{clash, clash_none, bytes_true, bytes_refl, first_a
 use Rattle.layout.specs.Head.{cells}
 use Rattle.walk.specs.Copies.{child_slot, front, Holds, LeafIs}
 use Rattle.walk.specs.declared.leaf.LeafCopy.{LeafCopy}
-use Rattle.walk.specs.declared.entry.Child.{Child}
+use Rattle.walk.specs.declared.node.Node.{Node}
 use Rattle.walk.specs.declared.entry.Found.{Found}
 use Rattle.walk.specs.Finding.{hits, Leads, CellIs, FoundAt, FirstIs, first_hit, leaf_places}
 
@@ -118,13 +118,13 @@ module _ (g : Geometry) (v : View) (f : Handle) (n : Name) where
 -- a step of each search, at the answer of what it calls
 module _ (g : Geometry) (v : View) (f : Handle) (n : Name) (s : Option Place) where
   module _ (k i : ℕ) (cs : List Cell) (inv : s ≡ first_hit g v f n (places_of k i (drop i cs))) (l : i < length cs) where
-    pub place_found : (o : Option Child) (c : Child) → o ≡ Some c → CellIs g v f n (get_or cs i []) o →
+    pub place_found : (o : Option Node) (c : Node) → o ≡ Some c → CellIs g v f n (get_or cs i []) o →
         (q : Place) × (s ≡ Some q) × FoundAt g v f n q (record { leaf = record { 0 = k }; place = i; child = c.handle; slot = c.slot })
     place_found o c e w =
         let x = subst (CellIs g v f n (get_or cs i [])) e w in
         (record { leaf = k; place = i; cell = get_or cs i [] }, inv ∙ cells_found g v f n k cs i l x.hit, record { leaf = refl; place = refl; leads = x })
 
-    pub place_next : (o : Option Child) → o ≡ None → CellIs g v f n (get_or cs i []) o → s ≡ first_hit g v f n (places_of k (i + 1) (drop (i + 1) cs))
+    pub place_next : (o : Option Node) → o ≡ None → CellIs g v f n (get_or cs i []) o → s ≡ first_hit g v f n (places_of k (i + 1) (drop (i + 1) cs))
     place_next o e w = inv ∙ cells_more g v f n k cs i l (subst (CellIs g v f n (get_or cs i [])) e w)
 
   module _ (r : Slot) (k c : ℕ) (inv : s ≡ first_hit g v f n (places_over v f r (from k (c - k)))) (l : k < c) where

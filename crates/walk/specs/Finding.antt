@@ -4,7 +4,7 @@ use Rattle.base.specs.declared.owner.Handle.{Handle}
 use Rattle.layout.specs.Format.{Geometry, Name, Cell, Slot, entry, entry_of}
 use Rattle.rule.specs.Agree.{View, Place, first, has_name, agrees, good, number, cells_in, places_of}
 use Rattle.walk.specs.Copies.{copied, child_slot}
-use Rattle.walk.specs.declared.entry.Child.{Child}
+use Rattle.walk.specs.declared.node.Node.{Node}
 use Rattle.walk.specs.declared.entry.Found.{Found}
 
 -- the entry in this cell of f's leaf has the name n and is sound
@@ -17,7 +17,7 @@ pub record Leads (g : Geometry) (v : View) (f : Handle) (n : Name) (e : Cell) (h
   pub here : entry_of g e ≡ entry n h
   pub child : child_slot g v f h ≡ Some r
 
-abbrev pub CellIs : Geometry → View → Handle → Name → Cell → Option Child → Type 0
+abbrev pub CellIs : Geometry → View → Handle → Name → Cell → Option Node → Type 0
 CellIs g v f n e o = MatchOption o (hits g v f n e ≡ false) (λ c. Leads g v f n e c.handle (copied c.slot))
 
 -- what was found is at the place q

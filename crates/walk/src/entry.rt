@@ -10,6 +10,7 @@ ghost use Rattle.walk.specs.Finding.{CellIs, FirstIs, first_hit, leaf_places};
 
 use crate::child::read_child;
 use crate::leaf::{LeafCopy, read_leaf};
+use crate::node::Node;
 use crate::slot::SlotCopy;
 use base::number::LeafNo;
 use base::owner::{Handle, Kind};
@@ -17,13 +18,6 @@ use device::Device;
 use device::fault::Fault;
 use entries::entry::{Cell, cell_bytes, parse_cell};
 use layout::geometry::Geometry;
-
-// The child that a sound entry leads to, with its slot.
-#[derive(Clone, Copy)]
-pub struct Child {
-    pub handle: Handle,
-    pub slot: SlotCopy,
-}
 
 // A sound entry: where it stands, and its child with the child's slot.
 #[derive(Clone, Copy)]
@@ -47,7 +41,7 @@ fn try_cell<D: Device>(
     folder: &Handle,
     name: &[u8],
     bytes: &[u8],
-) -> Result<Option<Child>, Fault>
+) -> Result<Option<Node>, Fault>
     requires { length bytes.now ≡ 32 }
     ensures { Says g.now result (CellIs (sizes g.now) (shows g.now (D.Device.model device.old)) folder.now name.now bytes.now) (D.Device.model device.old) (D.Device.model device.new) }
 {
@@ -58,7 +52,7 @@ fn try_cell<D: Device>(
             }
             let child = read_child(device, g, folder, &e.child)?;
             match child {
-                Some(slot) => Ok(Some(Child {
+                Some(slot) => Ok(Some(Node {
                     handle: e.child,
                     slot,
                 })),
@@ -78,7 +72,7 @@ fn try_place<D: Device>(
     name: &[u8],
     payload: &[u8],
     place: usize,
-) -> Result<Option<Child>, Fault>
+) -> Result<Option<Node>, Fault>
     requires { (length payload.now ≡ 480) × (place < 15) }
     ensures { Says g.now result (CellIs (sizes g.now) (shows g.now (D.Device.model device.old)) folder.now name.now (slice_index_or (cells payload.now) place [])) (D.Device.model device.old) (D.Device.model device.new) }
 {

@@ -5,5 +5,6 @@ pub mod child;
 pub mod entry;
 pub mod handle;
 pub mod leaf;
+pub mod node;
 pub mod path;
 pub mod slot;
