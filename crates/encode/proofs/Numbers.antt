@@ -7,7 +7,7 @@ use Rattle.base.specs.declared.number.BlockNo.{BlockNo}
 use Rattle.base.specs.declared.owner.Handle.{Handle}
 use Rattle.base.specs.declared.owner.Kind.{Kind}
 use Rattle.layout.specs.Format.{two, numbers_bytes, padded, slotted, encode}
-use Rattle.encode.specs.Heads.{plain, slot_head_bytes, slot_record}
+use Rattle.encode.specs.Heads.{plain, slot_head_bytes, slot_record, Begins}
 
 length_numbers_bytes : (ns : List ℕ) → length (numbers_bytes ns) ≡ 2 * length ns
 length_numbers_bytes [] = refl
@@ -44,11 +44,6 @@ padded_more z m n lm mn =
     let all : n - length (padded m z) ≡ n - m = omega (arith, length-append z (replicate (m - length z) 0), length-replicate {A = ℕ} (m - length z) 0) in
     let sum : m - length z + (n - m) ≡ n - length z = omega arith in
     rw (all, append_assoc, replicate-append-replicate, sum) refl
-
--- the first n of 64 blocks are the numbers ns, and 0 after those
-pub record Begins (ns : List ℕ) (bs : List BlockNo) (n : ℕ) : Type 0 where
-  pub size : length bs ≡ 64
-  pub each : (j : ℕ) → j < n → (get_or bs j (record { 0 = 0 })).0 ≡ get_or ns j 0
 
 pub begins_more : (ns : List ℕ) (bs : List BlockNo) (n : ℕ) (b : BlockNo) → n < 64 → Begins ns bs n → b.0 ≡ get_or ns n 0 → Begins ns (set bs n b) (n + 1)
 begins_more ns bs n b lt h e =

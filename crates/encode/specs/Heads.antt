@@ -1,5 +1,5 @@
 -- The first bytes of a block and of a cell, and the contents that encoders are given.
-use Rattle.std.specs.Prelude.{◌≡◌, ℕ, ◌<◌, List, [], ◌∷◌, map, length}
+use Rattle.std.specs.Prelude.{◌≡◌, ℕ, ◌<◌, List, [], ◌∷◌, map, length, get_or}
 use Rattle.base.specs.declared.number.BlockNo.{BlockNo}
 use Rattle.base.specs.declared.owner.Kind.{Kind}
 use Rattle.base.specs.declared.owner.Kind.TheVariants.{File, Folder}
@@ -36,3 +36,8 @@ slot_record d i p ns = record { kind = d; identity = i; parent = p; numbers = ns
 -- a folder's leaf has a cell at this place
 abbrev pub Placed : List ℕ → ℕ → Type 0
 Placed payload place = (length payload ≡ 480) × (place < 15)
+
+-- the first n of 64 blocks are the numbers ns, and 0 after those
+pub record Begins (ns : List ℕ) (bs : List BlockNo) (n : ℕ) : Type 0 where
+  pub size : length bs ≡ 64
+  pub each : (j : ℕ) → j < n → (get_or bs j (record { 0 = 0 })).0 ≡ get_or ns j 0

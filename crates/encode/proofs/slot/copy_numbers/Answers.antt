@@ -1,7 +1,8 @@
 use Rattle.std.proofs.Common.{◌≡◌, subst, ◌∙◌, arith}
 use Rattle.std.proofs.lemmas.List.{length-take-le, take_all}
 use Rattle.layout.specs.View.{all_numbers}
-use Rattle.encode.proofs.Numbers.{Begins, begins_more, begins_plain, number_or_zero}
+use Rattle.encode.specs.Heads.{Begins}
+use Rattle.encode.proofs.Numbers.{begins_more, begins_plain, number_or_zero}
 use Rattle.encode.proofs.slot.copy_numbers.Goals as goal
 
 pub loop-k-preserved : goal.loop-k-preserved

@@ -1,5 +1,5 @@
 use Rattle.layout.specs.View.{all_numbers}
-use Rattle.encode.proofs.Numbers.{Begins}
+use Rattle.encode.specs.Heads.{Begins}
 use Rattle.encode.proofs.slot.copy_numbers.Given as goal
 
 abbrev pub invariant-loop-k : goal.invariant-loop-k
