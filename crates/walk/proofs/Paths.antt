@@ -108,6 +108,13 @@ pub named_err : (n : Name) → good_name n ≡ false → named n ≡ Err (BadNam
 unfolding named
 named_err n e = check_err (good_name n) _ e
 
+pub name_checked : (i : ℕ) (n : Name) (r : Answer (Unit {0})) (x : Result (Unit {0}) PathRefusal) → x ≡ at_component i r →
+    MatchResult r (λ _. named n ≡ Ok tt) (λ e. named n ≡ Err e) → MatchResult x (λ _. named n ≡ Ok tt) (λ e. at_component i (named n) ≡ Err e)
+name_checked i n (Ok u) x e h =
+    subst (λ (z : Result _ _). MatchResult z (λ _. named n ≡ Ok tt) (λ e. at_component i (named n) ≡ Err e)) (sym (e ∙ component_ok i _ u refl)) h
+name_checked i n (Err r) x e h =
+    subst (λ (z : Result _ _). MatchResult z (λ _. named n ≡ Ok tt) (λ e. at_component i (named n) ≡ Err e)) (sym (e ∙ component_err i _ r refl)) (component_err i (named n) r h)
+
 pub all_named_ok : (i : ℕ) (n : Name) (ns : List Name) → named n ≡ Ok tt → all_named i (n ∷ ns) ≡ all_named (i + 1) ns
 unfolding all_named
 all_named_ok i n ns e = bind_ok _ _ tt (component_ok i (named n) tt e) ∙ ap (λ (j : ℕ). all_named j ns) (sym (add-one i))
@@ -162,13 +169,13 @@ module _ (g : Geometry) (was shown : Shown) where
         so ∙ ap (walk g (seen g was) i f) is
         ∙ walk_err g (seen g was) i f n more e (ap (at_component i) (step_ok g (seen g was) f n r fit) ∙ subst (λ (s : Shown). at_component i (entered g (seen g s) f n r) ≡ Err e) same q)
 
-    pub walk_in : (a : Found) → Enters g (seen g shown) (entered g (seen g shown) f n r) a → w ≡ walk g (seen g was) (i + 1) a.child more
+    pub walk_in : (a : Found) → Enters g (seen g shown) (entered g (seen g shown) f n r) a → w ≡ walk g (seen g was) (i + 1) a.child.handle more
     walk_in a q =
         so ∙ ap (walk g (seen g was) i f) is
-        ∙ walk_ok g (seen g was) i f a.child n more (step_ok g (seen g was) f n r fit ∙ subst (λ (s : Shown). entered g (seen g s) f n r ≡ Ok a.child) same q.child)
+        ∙ walk_ok g (seen g was) i f a.child.handle n more (step_ok g (seen g was) f n r fit ∙ subst (λ (s : Shown). entered g (seen g s) f n r ≡ Ok a.child.handle) same q.child)
 
-  pub walk_fits : (x : Answer Handle) (a : Found) → shown ≡ was → Enters g (seen g shown) x a → fits g (seen g was) a.child ≡ Ok (copied a.slot)
-  walk_fits x a same q = subst (λ (s : Shown). fits g (seen g s) a.child ≡ Ok (copied a.slot)) same q.slot
+  pub walk_fits : (x : Answer Handle) (a : Found) → shown ≡ was → Enters g (seen g shown) x a → fits g (seen g was) a.child.handle ≡ Ok (copied a.child.slot)
+  walk_fits x a same q = subst (λ (s : Shown). fits g (seen g s) a.child.handle ≡ Ok (copied a.child.slot)) same q.slot
 
 no_ok : {A B E : Type 0} {a : B} {e : E} → Ok a ≡ Err e → A
 no_ok q = let z : ◌≡◌ {A = ℕ} 0 1 = cc in absurd (omega arith)

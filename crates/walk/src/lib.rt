@@ -5,6 +5,7 @@ pub mod child;
 pub mod entry;
 pub mod handle;
 pub mod leaf;
+pub mod leaf_copy;
 pub mod node;
 pub mod path;
 pub mod slot;

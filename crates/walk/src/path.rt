@@ -10,6 +10,7 @@ ghost use Rattle.walk.specs.Paths.{name_end};
 
 use crate::entry::Found;
 use crate::handle::{enter, read_handle};
+use crate::node::Node;
 use crate::slot::SlotCopy;
 use base::number::{Identity, SlotNo};
 use base::owner::Handle;
@@ -62,10 +63,7 @@ fn find_end(path: &[u8], start: usize) -> usize
 fn check_component(name: &[u8], component: usize) -> Result<(), PathRefusal>
     ensures { MatchResult result (λ _. named name.now ≡ Ok tt) (λ e. at_component component (named name.now) ≡ Err e) }
 {
-    match check_name(name) {
-        Ok(()) => Ok(()),
-        Err(lower) => Err(PathRefusal { lower, component }),
-    }
+    at_component(component, check_name(name))
 }
 
 // Refused at the first component that is no name. The empty path has no component.
@@ -89,14 +87,13 @@ pub fn check_path(path: &[u8]) -> Result<(), PathRefusal>
 fn enter_at<D: Device>(
     device: &mut D,
     g: &Geometry,
-    folder: &Handle,
-    slot: &SlotCopy,
+    folder: &Node,
     name: &[u8],
     component: usize,
 ) -> Result<Found, PathRefusal>
-    ensures { PathGives g.now result (at_component component (entered (sizes g.now) (shows g.now (D.Device.model device.old)) folder.now name.now (copied slot.now))) (Enters (sizes g.now) (shows g.now (D.Device.model device.old)) (entered (sizes g.now) (shows g.now (D.Device.model device.old)) folder.now name.now (copied slot.now))) (D.Device.model device.old) (D.Device.model device.new) }
+    ensures { PathGives g.now result (at_component component (entered (sizes g.now) (shows g.now (D.Device.model device.old)) folder.now.handle name.now (copied folder.now.slot))) (Enters (sizes g.now) (shows g.now (D.Device.model device.old)) (entered (sizes g.now) (shows g.now (D.Device.model device.old)) folder.now.handle name.now (copied folder.now.slot))) (D.Device.model device.old) (D.Device.model device.new) }
 {
-    at_component(component, enter(device, g, folder, slot, name))
+    at_component(component, enter(device, g, folder, name))
 }
 
 fn read_root<D: Device>(device: &mut D, g: &Geometry) -> Result<SlotCopy, PathRefusal>
@@ -115,19 +112,20 @@ fn walk_from<D: Device>(
     requires { (fits (sizes g.now) (shows g.now (D.Device.model device.old)) root ≡ Ok (copied top)) × (0 < length path.now) }
     ensures { PathGives g.now result (walk (sizes g.now) (shows g.now (D.Device.model device.old)) 0 root (components path.now)) (λ h. walk (sizes g.now) (shows g.now (D.Device.model device.old)) 0 root (components path.now) ≡ Ok h) (D.Device.model device.old) (D.Device.model device.new) }
 {
-    let mut at = ROOT;
-    let mut slot = top;
+    let mut at = Node {
+        handle: ROOT,
+        slot: top,
+    };
     let mut start: usize = 0;
     let mut component: usize = 0;
     while start <= path.len() {
         let end = find_end(path, start);
-        let found = enter_at(device, g, &at, &slot, &path[start..end], component)?;
+        let found = enter_at(device, g, &at, &path[start..end], component)?;
         at = found.child;
-        slot = found.slot;
         start = end + 1;
         component += 1;
     }
-    Ok(at)
+    Ok(at.handle)
 }
 
 // From the root down. The root's slot is read once; the slot of each next folder is the one that was read to see

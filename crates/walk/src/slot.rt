@@ -19,7 +19,7 @@ use layout::geometry::Geometry;
 use layout::number::number16;
 
 // A well-formed slot, taken out of its block; `numbers` are the block numbers of its leaves, two bytes each.
-#[derive(Clone, Copy)]
+#[derive(Clone, Copy, Debug)]
 pub struct SlotCopy {
     pub kind: Kind,
     pub identity: Identity,

@@ -1,5 +1,5 @@
-use Rattle.walk.proofs.Paths.{component_err}
+use Rattle.walk.proofs.Paths.{name_checked}
 use Rattle.walk.proofs.path.check_component.Goals as goal
 
-pub returns-in-Err : goal.returns-in-Err
-returns-in-Err c = component_err c.args.component _ _ c.in-Err.ensures
+pub returns : goal.returns
+returns c = name_checked c.args.component c.args.name.now _ _ c.at_component.ensures c.check_name.ensures

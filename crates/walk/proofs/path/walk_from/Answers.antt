@@ -20,7 +20,7 @@ returns-in_err-found g c =
     let p = err_from_is_err_and c.from_residual.result c.from_residual.ensures.1 in
     let more = names_more c.args.path.now c.loop-start.start c.find_end-end.result (omega arith) c.find_end-end.ensures.end in
     path_exit c.args.g.now _ _ c.from_residual.result _ _ _ _ p.1 p.2
-    (path_refused c.args.g.now _ _ _ _ _ _ c.loop-start.invariant.0 (walk_out (sizes c.args.g.now) was _ _ _ c.loop-start.component c.loop-start.at (copied c.loop-start.slot) _ _ c.loop-start.invariant.0.kept.shown c.loop-start.invariant.1 c.loop-start.invariant.2 more _) c.in_err-found.ensures)
+    (path_refused c.args.g.now _ _ _ _ _ _ c.loop-start.invariant.0 (walk_out (sizes c.args.g.now) was _ _ _ c.loop-start.component c.loop-start.at.handle (copied c.loop-start.at.slot) _ _ c.loop-start.invariant.0.kept.shown c.loop-start.invariant.1 c.loop-start.invariant.2 more _) c.in_err-found.ensures)
 
 pub loop-start-preserved : goal.loop-start-preserved
 loop-start-preserved g c =
@@ -29,7 +29,7 @@ loop-start-preserved g c =
     let more = names_more c.args.path.now c.loop-start.start c.find_end-end.result (omega arith) c.find_end-end.ensures.end in (
       still_then _ _ _ c.loop-start.invariant.0 e.0,
       walk_fits (sizes c.args.g.now) was _ _ _ c.loop-start.invariant.0.kept.shown e.1,
-      walk_in (sizes c.args.g.now) was _ _ _ c.loop-start.component c.loop-start.at (copied c.loop-start.slot) _ _ c.loop-start.invariant.0.kept.shown c.loop-start.invariant.1 c.loop-start.invariant.2 more _ e.1,
+      walk_in (sizes c.args.g.now) was _ _ _ c.loop-start.component c.loop-start.at.handle (copied c.loop-start.at.slot) _ _ c.loop-start.invariant.0.kept.shown c.loop-start.invariant.1 c.loop-start.invariant.2 more _ e.1,
       omega arith,
       omega arith,
     )
@@ -37,4 +37,4 @@ loop-start-preserved g c =
 pub returns : goal.returns
 returns g c =
     let v = shows c.args.g.now (g.D.Device.model c.args.device.now) in
-    (c.loop-start.invariant.0, c.loop-start.invariant.2 ∙ ap (walk (sizes c.args.g.now) v c.loop-start.component c.loop-start.at) (names_none c.args.path.now c.loop-start.start (omega arith)) ∙ walk_none (sizes c.args.g.now) v c.loop-start.component c.loop-start.at)
+    (c.loop-start.invariant.0, c.loop-start.invariant.2 ∙ ap (walk (sizes c.args.g.now) v c.loop-start.component c.loop-start.at.handle) (names_none c.args.path.now c.loop-start.start (omega arith)) ∙ walk_none (sizes c.args.g.now) v c.loop-start.component c.loop-start.at.handle)

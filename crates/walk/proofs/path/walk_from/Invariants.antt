@@ -10,8 +10,8 @@ use Rattle.walk.proofs.path.walk_from.Given as goal
 abbrev pub invariant-loop-start : goal.invariant-loop-start
 invariant-loop-start g l =
     Still (g.D.Device.model l.initial.device) (g.D.Device.model l.device)
-    × (fits (sizes l.g) (shows l.g (g.D.Device.model l.initial.device)) l.at ≡ Ok (copied l.slot))
-    × (walk (sizes l.g) (shows l.g (g.D.Device.model l.initial.device)) 0 root (components l.path) ≡ walk (sizes l.g) (shows l.g (g.D.Device.model l.initial.device)) l.component l.at (names_from l.path l.start))
+    × (fits (sizes l.g) (shows l.g (g.D.Device.model l.initial.device)) l.at.handle ≡ Ok (copied l.at.slot))
+    × (walk (sizes l.g) (shows l.g (g.D.Device.model l.initial.device)) 0 root (components l.path) ≡ walk (sizes l.g) (shows l.g (g.D.Device.model l.initial.device)) l.component l.at.handle (names_from l.path l.start))
     × (l.component ≤ l.start) × (l.start ≤ length l.path + 1)
 
 abbrev pub decreases-loop-start : goal.decreases-loop-start

@@ -1,6 +1,6 @@
 use Rattle.std.proofs.Common.{length, refl, ap, ◌∙◌}
 use Rattle.std.proofs.lemmas.List.{take_at}
-use Rattle.walk.proofs.leaf.copy_payload.Goals as goal
+use Rattle.walk.proofs.leaf_copy.LeafCopy.new.Goals as goal
 
 pub returns : goal.returns
 returns c =
