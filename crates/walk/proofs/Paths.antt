@@ -1,6 +1,8 @@
 -- A path, name by name.
-use Rattle.std.proofs.Common.{◌≡◌, ℕ, suc, ◌+◌, ◌-◌, ◌<◌, ◌≤◌, Bool, true, false, cond, eqb, leb, List, [], ◌∷◌, length, get_or, take, drop, Ok, Err, Result, sym, refl, ap, ◌∙◌, subst, inl, inr, add-one, arith, MatchResult}
-use Rattle.std.proofs.lemmas.List.{drop_more, drop_all, drop-drop, length-drop}
+use Rattle.std.proofs.Common.{◌≡◌, ℕ, suc, ◌+◌, ◌<◌, ◌≤◌, Bool, true, false, cond, eqb, leb, List, [], ◌∷◌, length, get_or, take, drop, Ok, Err, Some, None, Option, Result, sym, refl, ap, ◌∙◌, subst, inl, inr, add-one, arith, MatchResult}
+use denote.Ref.{Bor}
+use Rattle.std.specs.Slice.{IsGetRangeResult}
+use Rattle.std.proofs.lemmas.List.{drop_more, drop_all, take_rest}
 use Rattle.std.proofs.lemmas.Bool.{cases_lt, cond-true, cond-false, eq-eqb, ne_eqb, le-leb, lt-leb}
 use Rattle.base.specs.declared.owner.Handle.{Handle}
 use Rattle.base.specs.declared.refusal.Refusal.{Refusal}
@@ -12,7 +14,7 @@ use Rattle.layout.specs.declared.geometry.Geometry.{Geometry as CardGeometry}
 use Rattle.rule.specs.Agree.{Shown, View, seen, root}
 use Rattle.rule.specs.Check.{Answer}
 use Rattle.rule.specs.Reading.{fits, step, named, longer, parted, components, at_component, all_named, walk}
-use Rattle.walk.specs.Paths.{name_end, names_from}
+use Rattle.walk.specs.Paths.{name_end, names_in}
 use Rattle.walk.specs.Still.{Still, Gives, PathGives, PathRefused}
 use Rattle.walk.specs.Stepping.{entered, Enters}
 use Rattle.walk.specs.Copies.{copied}
@@ -66,29 +68,35 @@ parted_more (x ∷ xs) = go (eqb x 47) (parted_more xs)
         ap (longer x) h
         ∙ ap (λ (b : Bool). (x ∷ take (name_end xs) xs) ∷ cond b (parted (drop (suc (name_end xs)) xs)) []) (leb_as (suc (name_end xs)) (length xs) (suc (suc (name_end xs))) (suc (length xs)) (λ l. omega arith) (λ l. omega arith))
 
-module _ (p : List ℕ) where
-  pub names_more : (s e : ℕ) → s ≤ length p → e ≡ s + name_end (drop s p) → names_from p s ≡ take (e - s) (drop s p) ∷ names_from p (e + 1)
-  unfolding names_from
-  names_more s e l q =
-      cond-true (leb s (length p)) _ _ (le-leb s (length p) l) ∙ parted_more (drop s p)
-      ∙ ap (λ (i : ℕ). take i (drop s p) ∷ rest_of (drop s p)) (omega arith)
-      ∙ ap (λ (b : Bool). take (e - s) (drop s p) ∷ cond b (parted (drop (suc (name_end (drop s p))) (drop s p))) []) test
-      ∙ ap (λ (z : List ℕ). take (e - s) (drop s p) ∷ cond (leb (e + 1) (length p)) (parted z) []) left
-    where
-      test : leb (suc (name_end (drop s p))) (length (drop s p)) ≡ leb (e + 1) (length p)
-      test = leb_as (suc (name_end (drop s p))) (length (drop s p)) (e + 1) (length p) (λ h. omega (arith, length-drop s p, q, h)) (λ h. omega (arith, length-drop s p, q, h))
+-- the name that comes next, and what is left after its '/'
+pub names_next : (z : List ℕ) (e : ℕ) (o : Option (Bor (List ℕ))) → e ≡ name_end z → IsGetRangeResult z (e + 1) (length z) o → parted z ≡ take e z ∷ names_in o
+names_next z e o q w =
+    parted_more z ∙ ap (λ (ns : List Name). take (name_end z) z ∷ ns) (left o w) ∙ ap (λ (i : ℕ). take i z ∷ names_in o) (sym q)
+  where
+    after : suc (name_end z) ≡ e + 1
+    after = omega (arith, q)
 
-      left : drop (suc (name_end (drop s p))) (drop s p) ≡ drop (e + 1) p
-      left = drop-drop (suc (name_end (drop s p))) s p ∙ ap (λ (i : ℕ). drop i p) (omega (arith, q))
+    left : (o : Option (Bor (List ℕ))) → IsGetRangeResult z (e + 1) (length z) o → rest_of z ≡ names_in o
+    left None w = elim w.0 [
+      | inl l ↦ cond-false (leb (suc (name_end z)) (length z)) _ _ (lt-leb (suc (name_end z)) (length z) (omega (arith, l, q)))
+      | inr l ↦ absurd (omega (arith, l))
+    ]
+    left (Some y) w =
+        cond-true (leb (suc (name_end z)) (length z)) _ _ (le-leb (suc (name_end z)) (length z) (omega (arith, w.0.0, q)))
+        ∙ ap (λ (i : ℕ). parted (drop i z)) after ∙ ap parted (sym (w.0.2 ∙ take_rest z (e + 1)))
 
-  pub names_none : (s : ℕ) → length p < s → names_from p s ≡ []
-  unfolding names_from
-  names_none s l = cond-false (leb s (length p)) _ _ (lt-leb s (length p) l)
+length_longer : (x : ℕ) (ns : List Name) (k : ℕ) → length ns ≤ k → length (longer x ns) ≤ suc k
+length_longer x [] k l = omega arith
+length_longer x (n ∷ ns) k l = omega arith
 
-pub names_all : (p : List ℕ) → 0 < length p → components p ≡ names_from p 0
-unfolding names_from
-names_all [] l = absurd (omega arith)
-names_all (x ∷ xs) l = sym (cond-true (leb 0 (suc (length xs))) _ _ (le-leb 0 (suc (length xs)) (omega arith)))
+-- at most one name more than there are bytes
+pub length_parted : (z : List ℕ) → length (parted z) ≤ suc (length z)
+length_parted [] = omega arith
+length_parted (x ∷ xs) = go (eqb x 47) (length_parted xs)
+  where
+    go : (b : Bool) → length (parted xs) ≤ suc (length xs) → length (cond b ([] ∷ parted xs) (longer x (parted xs))) ≤ suc (suc (length xs))
+    go true l = omega arith
+    go false l = length_longer x (parted xs) (suc (length xs)) l
 
 -- ---- components
 
@@ -193,8 +201,11 @@ step_out g v f n i e q = go (fits g v f) refl q
 -- a root whose slot does not fit stops a walk at component 0
 pub walk_root : (g : Geometry) (v : View) (p : List ℕ) → 0 < length p → (e : PathRefusal) → at_component 0 (fits g v root) ≡ Err e → walk g v 0 root (components p) ≡ Err e
 walk_root g v p l e q =
-    let is = names_all p l ∙ names_more p 0 (0 + name_end (drop 0 p)) (omega arith) refl in
-    ap (walk g v 0 root) is ∙ walk_err g v 0 root _ _ e (step_out g v root _ 0 e q)
+    ap (walk g v 0 root) (names_some p l) ∙ walk_err g v 0 root _ _ e (step_out g v root _ 0 e q)
+  where
+    names_some : (p : List ℕ) → 0 < length p → components p ≡ take (name_end p) p ∷ rest_of p
+    names_some [] l = absurd (omega arith)
+    names_some (x ∷ xs) l = parted_more (x ∷ xs)
 
 -- the whole walk after reads that left what is shown as it was
 pub path_then : (g : CardGeometry) (r : Result Handle PathRefusal) (x y : Result Handle PathRefusal) (m k n : Model) → Still m k → x ≡ y → PathGives g r x (λ h. x ≡ Ok h) k n → PathGives g r y (λ h. y ≡ Ok h) m n

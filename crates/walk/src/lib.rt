@@ -2,6 +2,7 @@
 #![tactic(auto)]
 
 pub mod child;
+mod components;
 pub mod entry;
 pub mod handle;
 pub mod leaf;

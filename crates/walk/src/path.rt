@@ -1,13 +1,13 @@
 // Paths: names parted by '/', walked from the root.
-ghost use Rattle.std.specs.Prelude.{◌≡◌, ◌+◌, ◌<◌, ◌≤◌, length, drop, Ok, Err, MatchResult};
+ghost use Rattle.std.specs.Prelude.{◌≡◌, Ok, Err, MatchResult};
 ghost use Rattle.layout.specs.Sizes.{sizes};
 ghost use Rattle.rule.specs.Reading.{named, components, at_component, all_named, walk, fits};
 ghost use Rattle.rule.specs.Agree.{root};
 ghost use Rattle.walk.specs.Still.{PathGives, shows};
 ghost use Rattle.walk.specs.Copies.{copied};
 ghost use Rattle.walk.specs.Stepping.{entered, Enters};
-ghost use Rattle.walk.specs.Paths.{name_end};
 
+use crate::components::Components;
 use crate::entry::Found;
 use crate::handle::{enter, read_handle};
 use crate::node::Node;
@@ -46,20 +46,6 @@ pub fn at_component<A>(component: usize, answer: Result<A, Refusal>) -> Result<A
     }
 }
 
-// Where the name that starts at a place of the path ends.
-fn find_end(path: &[u8], start: usize) -> usize
-    requires { start ≤ length path.now }
-    ensures end { result ≡ start + name_end (drop start path.now) }
-    ensures within { (start ≤ result) × (result ≤ length path.now) }
-{
-    for i in start..path.len() {
-        if path[i] == 47 {
-            return i;
-        }
-    }
-    path.len()
-}
-
 fn check_component(name: &[u8], component: usize) -> Result<(), PathRefusal>
     ensures { MatchResult result (λ _. named name.now ≡ Ok tt) (λ e. at_component component (named name.now) ≡ Err e) }
 {
@@ -70,16 +56,8 @@ fn check_component(name: &[u8], component: usize) -> Result<(), PathRefusal>
 pub fn check_path(path: &[u8]) -> Result<(), PathRefusal>
     ensures { MatchResult result (λ _. all_named 0 (components path.now) ≡ Ok tt) (λ e. all_named 0 (components path.now) ≡ Err e) }
 {
-    if path.is_empty() {
-        return Ok(());
-    }
-    let mut start: usize = 0;
-    let mut component: usize = 0;
-    while start <= path.len() {
-        let end = find_end(path, start);
-        check_component(&path[start..end], component)?;
-        start = end + 1;
-        component += 1;
+    for (component, name) in Components::new(path).enumerate() {
+        check_component(name, component)?;
     }
     Ok(())
 }
@@ -109,21 +87,16 @@ fn walk_from<D: Device>(
     top: SlotCopy,
     path: &[u8],
 ) -> Result<Handle, PathRefusal>
-    requires { (fits (sizes g.now) (shows g.now (D.Device.model device.old)) root ≡ Ok (copied top)) × (0 < length path.now) }
+    requires { fits (sizes g.now) (shows g.now (D.Device.model device.old)) root ≡ Ok (copied top) }
     ensures { PathGives g.now result (walk (sizes g.now) (shows g.now (D.Device.model device.old)) 0 root (components path.now)) (λ h. walk (sizes g.now) (shows g.now (D.Device.model device.old)) 0 root (components path.now) ≡ Ok h) (D.Device.model device.old) (D.Device.model device.new) }
 {
     let mut at = Node {
         handle: ROOT,
         slot: top,
     };
-    let mut start: usize = 0;
-    let mut component: usize = 0;
-    while start <= path.len() {
-        let end = find_end(path, start);
-        let found = enter_at(device, g, &at, &path[start..end], component)?;
+    for (component, name) in Components::new(path).enumerate() {
+        let found = enter_at(device, g, &at, name, component)?;
         at = found.child;
-        start = end + 1;
-        component += 1;
     }
     Ok(at.handle)
 }
