@@ -1,15 +1,14 @@
 -- A path, name by name.
-use Rattle.std.proofs.Common.{◌≡◌, ℕ, suc, ◌+◌, ◌<◌, ◌≤◌, Bool, true, false, cond, eqb, leb, List, [], ◌∷◌, length, get_or, take, drop, Ok, Err, Some, None, Option, Result, sym, refl, ap, ◌∙◌, subst, inl, inr, add-one, arith, MatchResult}
+use Rattle.std.proofs.Common.{◌≡◌, ℕ, suc, ◌+◌, ◌<◌, ◌≤◌, Bool, true, false, cond, eqb, leb, List, [], ◌∷◌, length, take, drop, Ok, Err, Some, None, Option, Result, sym, refl, ap, ◌∙◌, subst, inl, inr, add-one, arith, MatchResult}
 use denote.Ref.{Bor}
 use Rattle.std.specs.Slice.{IsGetRangeResult}
-use Rattle.std.proofs.lemmas.List.{drop_more, drop_all, take_rest}
-use Rattle.std.proofs.lemmas.Bool.{cases_lt, cond-true, cond-false, eq-eqb, ne_eqb, le-leb, lt-leb}
+use Rattle.std.proofs.lemmas.List.{take_rest}
+use Rattle.std.proofs.lemmas.Bool.{cases_lt, cond-true, cond-false, le-leb, lt-leb}
 use Rattle.base.specs.declared.owner.Handle.{Handle}
 use Rattle.base.specs.declared.refusal.Refusal.{Refusal}
-use Rattle.base.specs.declared.refusal.Refusal.TheVariants.{BadName}
 use Rattle.base.specs.declared.refusal.PathRefusal.{PathRefusal}
 use Rattle.device.specs.Model.{Model}
-use Rattle.layout.specs.Format.{Name, Geometry, Slot, good_name}
+use Rattle.layout.specs.Format.{Name, Geometry, Slot}
 use Rattle.layout.specs.declared.geometry.Geometry.{Geometry as CardGeometry}
 use Rattle.rule.specs.Agree.{Shown, View, seen, root}
 use Rattle.rule.specs.Check.{Answer}
@@ -20,30 +19,7 @@ use Rattle.walk.specs.Stepping.{entered, Enters}
 use Rattle.walk.specs.Copies.{copied}
 use Rattle.walk.specs.declared.entry.Found.{Found}
 use Rattle.walk.proofs.Stills.{still_then, failed_then}
-use Rattle.walk.proofs.Stepping.{bind_ok, bind_err, check_ok, check_err, step_ok, step_err}
-
--- ---- the end of a name
-
-module _ (p : List ℕ) (i : ℕ) (l : i < length p) where
-  end_more : name_end (drop i p) ≡ cond (eqb (get_or p i 0) 47) 0 (suc (name_end (drop (i + 1) p)))
-  end_more = ap name_end (drop_more p i 0 l)
-
-  pub end_here : get_or p i 0 ≡ 47 → name_end (drop i p) ≡ 0
-  end_here e = end_more ∙ cond-true (eqb (get_or p i 0) 47) _ _ (eq-eqb (get_or p i 0) 47 e)
-
-  pub end_later : (get_or p i 0 ≡ 47 → ⊥) → name_end (drop i p) ≡ suc (name_end (drop (i + 1) p))
-  end_later e = end_more ∙ cond-false (eqb (get_or p i 0) 47) _ _ (ne_eqb (get_or p i 0) 47 e)
-
-pub end_past : (p : List ℕ) (i : ℕ) → length p ≤ i → name_end (drop i p) ≡ 0
-end_past p i l = ap name_end (drop_all i p l)
-
-pub end_within : (z : List ℕ) → name_end z ≤ length z
-end_within [] = omega arith
-end_within (x ∷ xs) = go (eqb x 47) (end_within xs)
-  where
-    go : (b : Bool) → name_end xs ≤ length xs → cond b 0 (suc (name_end xs)) ≤ suc (length xs)
-    go true h = omega arith
-    go false h = omega arith
+use Rattle.walk.proofs.Stepping.{bind_ok, bind_err, step_ok, step_err}
 
 -- ---- the names that are left
 
@@ -107,21 +83,6 @@ component_ok i x a e = ap (at_component i) e
 pub component_err : {A : Type 0} (i : ℕ) (x : Answer A) (r : Refusal) → x ≡ Err r → at_component i x ≡ Err (record { lower = r; component = i })
 unfolding at_component
 component_err i x r e = ap (at_component i) e
-
-pub named_ok : (n : Name) → good_name n ≡ true → named n ≡ Ok tt
-unfolding named
-named_ok n e = check_ok (good_name n) _ e
-
-pub named_err : (n : Name) → good_name n ≡ false → named n ≡ Err (BadName (length n))
-unfolding named
-named_err n e = check_err (good_name n) _ e
-
-pub name_checked : (i : ℕ) (n : Name) (r : Answer (Unit {0})) (x : Result (Unit {0}) PathRefusal) → x ≡ at_component i r →
-    MatchResult r (λ _. named n ≡ Ok tt) (λ e. named n ≡ Err e) → MatchResult x (λ _. named n ≡ Ok tt) (λ e. at_component i (named n) ≡ Err e)
-name_checked i n (Ok u) x e h =
-    subst (λ (z : Result _ _). MatchResult z (λ _. named n ≡ Ok tt) (λ e. at_component i (named n) ≡ Err e)) (sym (e ∙ component_ok i _ u refl)) h
-name_checked i n (Err r) x e h =
-    subst (λ (z : Result _ _). MatchResult z (λ _. named n ≡ Ok tt) (λ e. at_component i (named n) ≡ Err e)) (sym (e ∙ component_err i _ r refl)) (component_err i (named n) r h)
 
 pub all_named_ok : (i : ℕ) (n : Name) (ns : List Name) → named n ≡ Ok tt → all_named i (n ∷ ns) ≡ all_named (i + 1) ns
 unfolding all_named

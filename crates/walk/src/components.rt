@@ -27,6 +27,7 @@ impl<'a> Components<'a> {
     ghost use Rattle.walk.specs.Paths.{names_left};
 
     // The empty path has none.
+    #[tactic(auto, using(crate::proofs::Paths::length_parted))]
     pub(crate) fn new(path: &'a [u8]) -> Components<'a>
         ensures names { names_left result ≡ components path.now }
         ensures few { length (names_left result) ≤ length path.now + 1 }
@@ -46,6 +47,7 @@ impl<'a> Iterator for Components<'a> {
 
     ghost remaining = { item_count names_left };
 
+    #[tactic(auto, using(crate::proofs::Paths::names_next))]
     fn next(&mut self) -> Option<&'a [u8]> {
         let rest = self.rest?;
         let end = find_end(rest);

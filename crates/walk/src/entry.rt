@@ -18,7 +18,7 @@ use entries::entry::{Cell, parse_cell};
 use layout::geometry::Geometry;
 
 // A sound entry: where it stands, and its child.
-#[derive(Clone, Copy, Debug)]
+#[derive(Clone, Copy, PartialEq, Eq, Debug)]
 pub struct Found {
     pub leaf: LeafNo,
     pub place: usize,

@@ -15,6 +15,7 @@ use device::Device;
 use layout::geometry::Geometry;
 
 // The slot of a handle, if the slot is well formed with that identity.
+#[tactic(auto, using(crate::proofs::Stepping::fits_some, crate::proofs::Stepping::fits_other, crate::proofs::Stepping::fits_none))]
 pub fn read_handle<D: Device>(
     device: &mut D,
     g: &Geometry,
@@ -29,6 +30,7 @@ pub fn read_handle<D: Device>(
 }
 
 // The slot of a handle, if it fits and is of this kind. One read.
+#[tactic(auto, using(crate::proofs::Stepping::reading_ok, crate::proofs::Stepping::reading_err, crate::proofs::Stepping::refused_as, crate::proofs::Stepping::gives_exit))]
 pub fn read_kind<D: Device>(
     device: &mut D,
     g: &Geometry,
@@ -47,6 +49,7 @@ pub fn read_kind<D: Device>(
 }
 
 // The step from a folder to the child that has the name.
+#[tactic(auto, using(crate::proofs::Stepping::bind_err, crate::proofs::Stepping::enter_gives, crate::proofs::Stepping::gives_exit, crate::proofs::Stills::still))]
 pub fn enter<D: Device>(
     device: &mut D,
     g: &Geometry,
@@ -60,6 +63,7 @@ pub fn enter<D: Device>(
 }
 
 // The child of a folder that has the name: the folder's slot, its leaves and the child's slot are each read once.
+#[tactic(auto, using(crate::proofs::Stepping::step_err, crate::proofs::Stepping::refused_as, crate::proofs::Stepping::gives_exit))]
 pub fn find_child<D: Device>(
     device: &mut D,
     g: &Geometry,

@@ -1,10 +1,10 @@
 // Leaves, read through a device.
-ghost use Rattle.std.specs.Prelude.{◌≡◌, ◌≤◌, true, false, length, MatchOption};
+ghost use Rattle.std.specs.Prelude.{◌≡◌, true, false, MatchOption};
 ghost use Rattle.layout.specs.Format.{parse as parsed};
 ghost use Rattle.layout.specs.Sizes.{sizes};
-ghost use Rattle.rule.specs.Agree.{names, same_back};
+ghost use Rattle.rule.specs.Agree.{names};
 ghost use Rattle.walk.specs.Still.{Says, shows};
-ghost use Rattle.walk.specs.Copies.{copied, front, Holds, LeafIs};
+ghost use Rattle.walk.specs.Copies.{copied, Holds, LeafIs};
 
 use crate::leaf_copy::LeafCopy;
 use crate::node::Node;
@@ -12,21 +12,9 @@ use base::number::{BlockNo, LeafNo};
 use base::owner::{Back, Kind};
 use device::Device;
 use device::fault::Fault;
-use layout::block::{Block, Body, parse};
+use layout::block::{Block, parse};
 use layout::geometry::Geometry;
 use layout::owner::names;
-
-// A copy of the body, if it names this owner.
-fn owned(body: &Body, line: &Back) -> Option<LeafCopy>
-    requires { length body.now.payload.now ≤ 496 }
-    ensures { MatchOption result (same_back line.now body.now.back ≡ false) (λ l. (same_back line.now body.now.back ≡ true) × (l.used ≡ length body.now.payload.now) × (front l ≡ body.now.payload.now)) }
-{
-    if names(body, line) {
-        Some(LeafCopy::new(body.payload))
-    } else {
-        None
-    }
-}
 
 // A copy of the body in this block, if it is of the kind and names this owner.
 fn leaf_in(
@@ -39,8 +27,8 @@ fn leaf_in(
     ensures { MatchOption result (names kind line.now (parsed (sizes g.now) at.0 block.now) ≡ false) (λ l. (names kind line.now (parsed (sizes g.now) at.0 block.now) ≡ true) × Holds l (parsed (sizes g.now) at.0 block.now)) }
 {
     match (parse(g, at, block), kind) {
-        (Block::FileBody(b), Kind::File) => owned(&b, line),
-        (Block::FolderBody(b), Kind::Folder) => owned(&b, line),
+        (Block::FileBody(body), Kind::File) | (Block::FolderBody(body), Kind::Folder)
+            if names(&body, line) => { Some(LeafCopy::new(body.payload)) }
         _ => None,
     }
 }

@@ -2,7 +2,7 @@
 ghost use Rattle.std.specs.Prelude.{◌≡◌, ◌≤◌, length};
 
 // What follows the head of a good leaf's body. Bytes past the used ones are 0.
-#[derive(Clone, Copy, Debug)]
+#[derive(Clone, Copy, PartialEq, Eq, Debug)]
 pub struct LeafCopy {
     bytes: [u8; 496],
     used: u16,
@@ -36,14 +36,16 @@ impl LeafCopy {
 
     // Of a folder's leaf, which has 480 bytes, all of them.
     pub fn folder_bytes(&self) -> &[u8]
-        ensures { result.now ≡ folder_bytes self.now }
+        ensures value { result.now ≡ folder_bytes self.now }
+        ensures count { length result.now ≡ 480 }
     {
         &self.bytes[..480]
     }
 
     // Of a folder's leaf, the 15 cells of its entries.
     pub fn cells(&self) -> &[[u8; 32]]
-        ensures { result.now ≡ cells (folder_bytes self.now) }
+        ensures value { result.now ≡ cells (folder_bytes self.now) }
+        ensures count { length result.now ≡ 15 }
     {
         self.bytes.as_chunks::<32>().0
     }

@@ -7,7 +7,7 @@ use crate::slot::SlotCopy;
 use base::owner::{Handle, Kind};
 use base::refusal::Refusal;
 
-#[derive(Clone, Copy, Debug)]
+#[derive(Clone, Copy, PartialEq, Eq, Debug)]
 pub struct Node {
     pub handle: Handle,
     pub slot: SlotCopy,
@@ -15,6 +15,7 @@ pub struct Node {
 
 impl Node {
     // Refused unless it is of this kind.
+    #[tactic(auto, using(crate::proofs::Stepping::kind_ok, crate::proofs::Stepping::kind_err, crate::proofs::Stepping::kinds_same))]
     pub fn want_kind(&self, kind: Kind) -> Result<(), Refusal>
         ensures { MatchResult result (λ _. kind_is kind self.now.handle (copied self.now.slot) ≡ Ok (copied self.now.slot)) (λ e. kind_is kind self.now.handle (copied self.now.slot) ≡ Err e) }
     {

@@ -26,6 +26,7 @@ pub const ROOT: Handle = Handle {
 };
 
 // Refused unless a file or folder may have this name.
+#[tactic(auto, unfolding(rule::specs::Reading::named, rule::specs::Check::check))]
 pub fn check_name(name: &[u8]) -> Result<(), Refusal>
     ensures { MatchResult result (λ _. named name.now ≡ Ok tt) (λ e. named name.now ≡ Err e) }
 {
@@ -37,15 +38,18 @@ pub fn check_name(name: &[u8]) -> Result<(), Refusal>
 }
 
 // A refusal met at a component, kept whole.
+#[tactic(auto, unfolding(rule::specs::Reading::at_component))]
 pub fn at_component<A>(component: usize, answer: Result<A, Refusal>) -> Result<A, PathRefusal>
     ensures { result ≡ at_component component answer }
 {
+    // Kept: map_err would need a closure, and the card library has none.
     match answer {
         Ok(a) => Ok(a),
         Err(lower) => Err(PathRefusal { lower, component }),
     }
 }
 
+#[tactic(auto, unfolding(rule::specs::Reading::at_component))]
 fn check_component(name: &[u8], component: usize) -> Result<(), PathRefusal>
     ensures { MatchResult result (λ _. named name.now ≡ Ok tt) (λ e. at_component component (named name.now) ≡ Err e) }
 {
@@ -53,6 +57,7 @@ fn check_component(name: &[u8], component: usize) -> Result<(), PathRefusal>
 }
 
 // Refused at the first component that is no name. The empty path has no component.
+#[tactic(auto, using(crate::proofs::Paths::all_named_ok, crate::proofs::Paths::all_named_err, crate::proofs::Paths::all_named_none, crate::proofs::Paths::checked_exit))]
 pub fn check_path(path: &[u8]) -> Result<(), PathRefusal>
     ensures { MatchResult result (λ _. all_named 0 (components path.now) ≡ Ok tt) (λ e. all_named 0 (components path.now) ≡ Err e) }
 {
@@ -62,6 +67,7 @@ pub fn check_path(path: &[u8]) -> Result<(), PathRefusal>
     Ok(())
 }
 
+#[tactic(auto, using(crate::proofs::Paths::path_gives))]
 fn enter_at<D: Device>(
     device: &mut D,
     g: &Geometry,
@@ -74,6 +80,7 @@ fn enter_at<D: Device>(
     at_component(component, enter(device, g, folder, name))
 }
 
+#[tactic(auto, using(crate::proofs::Paths::path_gives))]
 fn read_root<D: Device>(device: &mut D, g: &Geometry) -> Result<SlotCopy, PathRefusal>
     ensures { PathGives g.now result (at_component 0 (fits (sizes g.now) (shows g.now (D.Device.model device.old)) root)) (λ s. fits (sizes g.now) (shows g.now (D.Device.model device.old)) root ≡ Ok (copied s)) (D.Device.model device.old) (D.Device.model device.new) }
 {
@@ -103,6 +110,7 @@ fn walk_from<D: Device>(
 
 // From the root down. The root's slot is read once; the slot of each next folder is the one that was read to see
 // whether its entry is sound. The empty path is the root, and needs no read.
+#[tactic(auto, using(crate::proofs::Paths::names_empty, crate::proofs::Paths::walk_none, crate::proofs::Paths::walk_root, crate::proofs::Paths::path_refused, crate::proofs::Paths::path_exit, crate::proofs::Stills::still))]
 pub fn walk_path<D: Device>(
     device: &mut D,
     g: &Geometry,

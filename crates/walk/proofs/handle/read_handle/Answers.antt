@@ -1,15 +1,9 @@
-use Rattle.std.proofs.Common.{sym, inl, false-eqb}
-use Rattle.std.proofs.lemmas.Bool.{eqb-true}
+use Rattle.std.proofs.Common.{inl, false-eqb}
 use Rattle.layout.specs.Sizes.{sizes}
 use Rattle.walk.specs.Still.{shows}
-use Rattle.walk.proofs.Stepping.{fits_some, fits_other, fits_none}
+use Rattle.walk.proofs.Stepping.{fits_other, fits_none}
 use Rattle.walk.proofs.handle.read_handle.Goals as goal
 use Rattle.walk.proofs.handle.read_handle.Goals.{in_default-via-in-Some+else-eq, in_default-via-in_default}
-
-pub returns-in-Some : goal.returns-in-Some
-returns-in-Some g c =
-    let e = c.in_ok-slot.ensures in
-    (e.0, fits_some (sizes c.args.g.now) (shows c.args.g.now (g.D.Device.model c.args.device.now)) c.args.handle.now _ e.1 _ c.in-Some.is (eqb-true _ _ (sym c.if-eq.ensures)))
 
 pub returns-in_default : goal.returns-in_default
 returns-in_default g c =
