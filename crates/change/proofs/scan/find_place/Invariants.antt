@@ -6,4 +6,4 @@ use Rattle.change.specs.Scanning.{first_sought}
 use Rattle.change.proofs.scan.find_place.Given as goal
 
 abbrev pub invariant-loop-place : goal.invariant-loop-place
-invariant-loop-place l = (k : ℕ) → first_sought (sizes l.g) l.marks l.folder l.sought l.name (places_of k 0 (cells l.payload)) ≡ first_sought (sizes l.g) l.marks l.folder l.sought l.name (places_of k l.place (drop l.place (cells l.payload)))
+invariant-loop-place l = (k : ℕ) → first_sought (sizes l.known.geometry) l.known.marks.now l.folder l.sought (places_of k 0 (cells l.payload)) ≡ first_sought (sizes l.known.geometry) l.known.marks.now l.folder l.sought (places_of k l.place (drop l.place (cells l.payload)))

@@ -12,19 +12,19 @@ use Rattle.change.proofs.write.plan_write.Goals as goal
 pub returns-then-bytes-gt496 : goal.returns-then-bytes-gt496
 returns-then-bytes-gt496 g c t =
     let m = g.D.Device.model c.args.device.now in
-    inl (still m, too_long c.args.g.now m c.args.memory.now c.args.file.now c.args.leaf.0 c.args.bytes.now (omega arith))
+    inl (still m, too_long c.args.known.now.geometry m c.args.known.now.memory c.args.file.now c.args.leaf.0 c.args.bytes.now (omega arith))
 
-pub returns-in_err-slot : goal.returns-in_err-slot
-returns-in_err-slot g c t =
+pub returns-in_err-file : goal.returns-in_err-file
+returns-in_err-file g c t =
     let m = g.D.Device.model c.args.device.now in
-    let tells = marks_tell (sizes c.args.g.now) (shows c.args.g.now m) c.args.marks.now t.rooted t.marked in
+    let tells = marks_tell (sizes c.args.known.now.geometry) (shows c.args.known.now.geometry m) c.args.known.now.marks.now t.rooted t.marked in
     let p = err_from_is_err_and c.from_residual.result c.from_residual.ensures.1 in
-    gives_exit c.args.g.now _ _ c.from_residual.result _ _ _ _ p.1 p.2
-    (refused_as c.args.g.now _ _ _ _ _ (no_file c.args.g.now m c.args.memory.now c.args.file.now c.args.leaf.0 c.args.bytes.now (omega arith) _) (c.in_err-slot.ensures tells))
+    gives_exit c.args.known.now.geometry _ _ c.from_residual.result _ _ _ _ p.1 p.2
+    (refused_as c.args.known.now.geometry _ _ _ _ _ (no_file c.args.known.now.geometry m c.args.known.now.memory c.args.file.now c.args.leaf.0 c.args.bytes.now (omega arith) _) (c.in_err-file.ensures tells))
 
 pub returns : goal.returns
 returns g c t =
     let m = g.D.Device.model c.args.device.now in
-    let tells = marks_tell (sizes c.args.g.now) (shows c.args.g.now m) c.args.marks.now t.rooted t.marked in
-    let e = c.in_ok-slot.ensures tells in
-    gives_decided c.args.g.now c.write_leaf.result _ _ m _ e.0 (c.write_leaf.ensures m (record { tells = tells; slot = e.1; short = omega arith }))
+    let tells = marks_tell (sizes c.args.known.now.geometry) (shows c.args.known.now.geometry m) c.args.known.now.marks.now t.rooted t.marked in
+    let e = c.in_ok-file.ensures tells in
+    rw (← e.1.0) (gives_decided c.args.known.now.geometry c.write_leaf.result _ _ m _ e.0 (c.write_leaf.ensures m (record { tells = tells; slot = e.1.1; short = omega arith })))
