@@ -59,30 +59,13 @@ fn is_sought(known: &Known, folder: &Handle, sought: Sought, bytes: &[u8]) -> bo
     }
 }
 
-// The same at a place of a leaf, which has 480 bytes.
-fn is_sought_at(
-    known: &Known,
-    folder: &Handle,
-    sought: Sought,
-    payload: &[u8],
-    place: usize,
-) -> bool
-    requires { (length payload.now ≡ 480) × (place < 15) }
-    ensures { result ≡ passes (sizes known.now.geometry) known.now.marks.now folder.now sought.entry (slice_index_or (cells payload.now) place []) }
-{
-    match cell_bytes(payload, place) {
-        Some(bytes) => is_sought(known, folder, sought, bytes),
-        None => false,
-    }
-}
-
-// The first place among the 15 of a leaf.
+// The first place among the 15 of a leaf, which has 480 bytes.
 fn find_place(known: &Known, folder: &Handle, sought: Sought, payload: &[u8]) -> Option<usize>
     requires { length payload.now ≡ 480 }
     ensures { PlaceIs (sizes known.now.geometry) known.now.marks.now folder.now sought.entry (cells payload.now) result }
 {
-    for place in 0..15usize {
-        if is_sought_at(known, folder, sought, payload, place) {
+    for (place, cell) in payload.chunks_exact(32).enumerate() {
+        if is_sought(known, folder, sought, cell) {
             return Some(place);
         }
     }
