@@ -29,8 +29,8 @@ fn numbers_of(slot: &SlotCopy) -> [BlockNo; 64]
     ensures { (k : ℕ) → k < 64 → (slice_index_or result k (block_no 0)).0 ≡ number (copied slot.now) k }
 {
     let mut all = [BlockNo(0); 64];
-    for k in 0..64u16 {
-        all[k as usize] = slot.number(LeafNo(k));
+    for (k, number) in all.iter_mut().enumerate() {
+        *number = slot.number(LeafNo(k as u16));
     }
     all
 }
