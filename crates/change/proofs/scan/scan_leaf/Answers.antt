@@ -5,13 +5,6 @@ use Rattle.walk.specs.Still.{shows}
 use Rattle.change.proofs.Scanning.{leaf_copied, leaf_scanned, leaf_skipped}
 use Rattle.change.proofs.scan.scan_leaf.Goals as goal
 
-pub returns-in_default : goal.returns-in_default
-returns-in_default g c =
-    let v = shows c.args.known.now.geometry (g.D.Device.model c.args.device.now) in
-    let e = c.in_ok-copy.ensures in
-    let bad = subst (LeafIs v c.args.folder.now.handle (copied c.args.folder.now.slot) c.args.leaf.0) c.in_default.is e.1 in
-    (e.0, leaf_skipped (sizes c.args.known.now.geometry) v c.args.known.now.marks.now c.args.folder.now.handle (copied c.args.folder.now.slot) c.args.leaf.0 c.args.sought c.args.before bad)
-
 pub returns : goal.returns
 returns g c =
     let v = shows c.args.known.now.geometry (g.D.Device.model c.args.device.now) in
