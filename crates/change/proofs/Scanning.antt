@@ -21,7 +21,7 @@ use Rattle.change.specs.declared.scan.Sought.{Sought}
 use Rattle.change.specs.declared.scan.Sought.TheVariants.{Open}
 use Rattle.change.specs.declared.scan.Spot.{Spot}
 use Rattle.change.specs.declared.scan.Scan.{Scan}
-use Rattle.change.specs.Scanning.{passes, at_cell, first_sought, SpotIn, SpotAt, SpotOr, LeafScanned, Scanned}
+use Rattle.change.specs.Scanning.{passes, at_cell, first_sought, SpotIn, SpotOr, LeafScanned, Scanned}
 
 no_kind : {A : Type 0} → File ≡ Folder → A
 no_kind e = let z : ◌≡◌ {A = ℕ} 0 1 = cc in absurd (omega arith)

@@ -1,6 +1,5 @@
 -- The search among the entries of a folder, by what the marks say of each.
 use Rattle.std.specs.Prelude.{◌≡◌, ℕ, ◌<◌, Bool, false, not, ◌&&◌, List, [], take, Some, None, Option, MatchOption, slice_index_or}
-use Rattle.std.specs.Borrow.{Bor}
 use Rattle.base.specs.declared.owner.Handle.{Handle}
 use Rattle.layout.specs.Format.{Geometry, Cell, Slot, Entry, entry, no_entry, entry_of}
 use Rattle.layout.specs.Head.{cells}

@@ -11,7 +11,7 @@ use Rattle.change.proofs.create.create_in.Goals as goal
 pub returns-in_err-child : goal.returns-in_err-child
 returns-in_err-child c m w x =
     let p = err_from_is_err_and c.from_residual.result c.from_residual.ensures.1 in
-    rw (p.1, p.2) (no_child c.args.known.now.geometry m c.args.known.now.memory c.args.kind c.args.folder.now.handle c.args.name.now c.args.known.now.marks.now c.args.folder.now.slot w _ (sym c.in_err-child.ensures))
+    rw (p.1, p.2) (no_child _ _ _ _ _ _ _ _ w _ (sym c.in_err-child.ensures))
 
 pub returns-in-Some : goal.returns-in-Some
 returns-in-Some c m w x =

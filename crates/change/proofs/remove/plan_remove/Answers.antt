@@ -1,7 +1,5 @@
 use Rattle.std.proofs.Common.{refl, inl, inr}
 use Rattle.std.proofs.lemmas.Result.{err_from_is_err_and}
-use Rattle.layout.specs.Sizes.{sizes}
-use Rattle.walk.specs.Still.{shows}
 use Rattle.walk.proofs.Stills.{still, still_then, failed_then}
 use Rattle.walk.proofs.Stepping.{refused_as}
 use Rattle.change.proofs.Checks.{tells_of}
@@ -13,14 +11,14 @@ pub returns-in_err-check_name : goal.returns-in_err-check_name
 returns-in_err-check_name g c t =
     let m = g.D.Device.model c.args.device.now in
     let p = err_from_is_err_and c.from_residual.result c.from_residual.ensures.1 in
-    rw (p.1, p.2) (inl (still m, bad_name c.args.known.now.geometry m c.args.known.now.memory c.args.folder.now c.args.name.now _ c.in_err-check_name.ensures))
+    rw (p.1, p.2) (inl (still m, bad_name c.args.known.now.geometry m _ _ _ _ c.in_err-check_name.ensures))
 
 pub returns-in_err-folder : goal.returns-in_err-folder
 returns-in_err-folder g c t =
     let m = g.D.Device.model c.args.device.now in
     let tells = tells_of t in
     let p = err_from_is_err_and c.from_residual-in_err-folder.result c.from_residual-in_err-folder.ensures.1 in
-    rw (p.1, p.2) (refused_as c.args.known.now.geometry _ _ _ _ _ (no_folder c.args.known.now.geometry m c.args.known.now.memory c.args.folder.now c.args.name.now c.in_ok-check_name.ensures _) (c.in_err-folder.ensures tells))
+    rw (p.1, p.2) (refused_as c.args.known.now.geometry _ _ _ _ _ (no_folder c.args.known.now.geometry m _ _ _ c.in_ok-check_name.ensures _) (c.in_err-folder.ensures tells))
 
 pub returns-in_err-scan : goal.returns-in_err-scan
 returns-in_err-scan g c t =
@@ -36,8 +34,8 @@ returns-in_default g c t =
     let tells = tells_of t in
     let e = c.in_ok-folder.ensures tells in
     let d = c.in_ok-scan.ensures in
-    let none = named_none c.args.known.now.geometry m _ c.args.known.now.marks.now c.in_ok-folder.folder.handle c.in_ok-folder.folder.slot c.args.name c.in_ok-scan.scan tells e.0 e.1.1 d.1 c.in_default.is in
-    rw (← e.1.0) (inl (still_then _ _ _ e.0 d.0, no_name c.args.known.now.geometry m c.args.known.now.memory c.in_ok-folder.folder.handle c.args.name.now c.in_ok-check_name.ensures c.in_ok-folder.folder.slot e.1.1 none))
+    let none = named_none c.args.known.now.geometry _ _ _ _ _ _ _ tells e.0 e.1.1 d.1 c.in_default.is in
+    rw (← e.1.0) (inl (still_then _ _ _ e.0 d.0, no_name c.args.known.now.geometry m _ _ _ c.in_ok-check_name.ensures _ e.1.1 none))
 
 pub returns : goal.returns
 returns g c t =
@@ -45,6 +43,6 @@ returns g c t =
     let tells = tells_of t in
     let e = c.in_ok-folder.ensures tells in
     let d = c.in_ok-scan.ensures in
-    let some = named_some c.args.known.now.geometry m _ c.args.known.now.marks.now c.in_ok-folder.folder.handle c.in_ok-folder.folder.slot c.args.name c.in_ok-scan.scan tells e.0 e.1.1 d.1 c.in-Some.spot c.in-Some.is in
+    let some = named_some c.args.known.now.geometry _ _ _ _ _ _ _ tells e.0 e.1.1 d.1 c.in-Some.spot c.in-Some.is in
     rw (← e.1.0) (c.remove_found.ensures m c.args.name.now (still_then _ _ _ e.0 d.0)
     (record { rooted = t.rooted; tells = tells; name = c.in_ok-check_name.ensures; slot = e.1.1; place = some.0; is = some.1; spot = some.2 }))

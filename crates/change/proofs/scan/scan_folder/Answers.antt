@@ -33,7 +33,7 @@ returns-then-is_some g c =
     let v = shows c.args.known.now.geometry (g.D.Device.model c.args.device.now) in
     let e = c.in_ok-here.ensures in
     let moved = subst (λ (f : Shown). LeafScanned (sizes c.args.known.now.geometry) (seen (sizes c.args.known.now.geometry) f) c.args.known.now.marks.now c.args.folder.now.handle (copied c.args.folder.now.slot) c.loop-k.k c.args.sought c.loop-k.vacant c.in_ok-here.here) c.loop-k.invariant.0.kept.shown e.1 in
-    (still_then _ _ _ c.loop-k.invariant.0 e.0, scan_found (sizes c.args.known.now.geometry) v c.args.known.now.marks.now c.args.folder.now.handle (copied c.args.folder.now.slot) c.args.sought c.loop-k.k c.args.folder.now.slot.count (omega arith) _ _ moved c.loop-k.invariant.1 some)
+    (still_then _ _ _ c.loop-k.invariant.0 e.0, scan_found _ _ _ _ _ _ _ _ (omega arith) _ _ moved c.loop-k.invariant.1 some)
 
 pub loop-k-preserved : goal.loop-k-preserved
 loop-k-preserved g c =
@@ -42,10 +42,10 @@ loop-k-preserved g c =
     let e = c.in_ok-here.ensures in
     let moved = subst (λ (f : Shown). LeafScanned (sizes c.args.known.now.geometry) (seen (sizes c.args.known.now.geometry) f) c.args.known.now.marks.now c.args.folder.now.handle (copied c.args.folder.now.slot) c.loop-k.k c.args.sought c.loop-k.vacant c.in_ok-here.here) c.loop-k.invariant.0.kept.shown e.1 in (
       still_then _ _ _ c.loop-k.invariant.0 e.0,
-      scan_on (sizes c.args.known.now.geometry) v c.args.known.now.marks.now c.args.folder.now.handle (copied c.args.folder.now.slot) c.args.sought c.loop-k.k c.args.folder.now.slot.count (omega arith) _ _ moved c.loop-k.invariant.1 none,
-      vacant_on (sizes c.args.known.now.geometry) v c.args.known.now.marks.now c.args.folder.now.handle (copied c.args.folder.now.slot) c.args.sought c.loop-k.k c.args.folder.now.slot.count (omega arith) _ _ moved _ c.loop-k.invariant.2,
+      scan_on _ _ _ _ _ _ _ _ (omega arith) _ _ moved c.loop-k.invariant.1 none,
+      vacant_on _ _ _ _ _ _ _ _ (omega arith) _ _ moved _ c.loop-k.invariant.2,
     )
 
 pub returns : goal.returns
 returns g c =
-    (c.loop-k.invariant.0, scan_end (sizes c.args.known.now.geometry) (shows c.args.known.now.geometry (g.D.Device.model c.args.device.now)) c.args.known.now.marks.now c.args.folder.now.handle (copied c.args.folder.now.slot) c.args.sought c.loop-k.k c.args.folder.now.slot.count (omega arith) c.loop-k.vacant c.loop-k.invariant.1 c.loop-k.invariant.2)
+    (c.loop-k.invariant.0, scan_end _ _ _ _ _ _ _ _ (omega arith) c.loop-k.vacant c.loop-k.invariant.1 c.loop-k.invariant.2)

@@ -1,6 +1,4 @@
 use Rattle.std.proofs.lemmas.Result.{err_from_is_err_and}
-use Rattle.layout.specs.Sizes.{sizes}
-use Rattle.walk.specs.Still.{shows}
 use Rattle.walk.proofs.Stepping.{refused_as}
 use Rattle.change.proofs.Checks.{tells_of, gives_decided}
 use Rattle.change.proofs.Shortens.{no_file}
@@ -11,7 +9,7 @@ returns-in_err-file g c t =
     let m = g.D.Device.model c.args.device.now in
     let tells = tells_of t in
     let p = err_from_is_err_and c.from_residual.result c.from_residual.ensures.1 in
-    rw (p.1, p.2) (refused_as c.args.known.now.geometry _ _ _ _ _ (no_file c.args.known.now.geometry m c.args.known.now.memory c.args.file.now c.args.n.0 _) (c.in_err-file.ensures tells))
+    rw (p.1, p.2) (refused_as c.args.known.now.geometry _ _ _ _ _ (no_file c.args.known.now.geometry m _ _ _ _) (c.in_err-file.ensures tells))
 
 pub returns : goal.returns
 returns g c t =

@@ -16,8 +16,8 @@ pub returns-then-leaf-file-2 : goal.returns-then-leaf-file-2
 returns-then-leaf-file-2 c m w =
     let size = length_numbers c.args.file.now.slot.count c.args.file.now.slot.numbers in
     elim c.then-leaf-file-2.either [
-      | inl l ↦ past_count c.args.known.now.geometry m c.args.known.now.memory c.args.file.now.handle c.args.leaf.0 c.args.bytes.now c.args.known.now.marks.now c.args.file.now.slot w (omega (arith, size))
-      | inr l ↦ past_limit c.args.known.now.geometry m c.args.known.now.memory c.args.file.now.handle c.args.leaf.0 c.args.bytes.now c.args.known.now.marks.now c.args.file.now.slot w (omega arith)
+      | inl l ↦ past_count _ _ _ _ _ _ _ _ w (omega (arith, size))
+      | inr l ↦ past_limit _ _ _ _ _ _ _ _ w (omega arith)
     ]
 
 pub returns : goal.returns
