@@ -14,6 +14,7 @@ use base::owner::{Back, Handle, Kind};
 use device::put::Put;
 use encode::block::{encode_blank, encode_file_body, encode_folder_change, encode_slot};
 use encode::entry::encode_entry;
+use walk::node::Node;
 use walk::slot::SlotCopy;
 
 // The number after. A card has no slot and no block 65535, so the sum is never cut short.
@@ -91,17 +92,17 @@ pub(crate) fn blank_put(at: SlotNo) -> Put
     }
 }
 
-// A leaf of a folder, whose slot is given, with another cell at one of its 15 places; zeros for a place beyond.
-pub(crate) fn cell_put(folder: &Handle, slot: &SlotCopy, spot: &Spot, cell: &[u8; 32]) -> Put
-    ensures { spot.now.place < 15 → result ≡ store (number (copied slot.now) spot.now.leaf.0) (folder_body (back folder.now spot.now.leaf.0) (slice_set (cells (take 480 spot.now.copy.bytes)) spot.now.place cell.now)) }
+// A leaf of a folder with another cell at one of its 15 places; zeros for a place beyond.
+pub(crate) fn cell_put(folder: &Node, spot: &Spot, cell: &[u8; 32]) -> Put
+    ensures { spot.now.place < 15 → result ≡ store (number (copied folder.now.slot) spot.now.leaf.0) (folder_body (back folder.now.handle spot.now.leaf.0) (slice_set (cells (take 480 spot.now.copy.bytes)) spot.now.place cell.now)) }
 {
     let line = Back {
-        owner: *folder,
+        owner: folder.handle,
         leaf: spot.leaf,
     };
     let change = encode_folder_change(&line, &spot.copy.bytes[0..480], spot.place, cell);
     Put {
-        block: slot.number(spot.leaf),
+        block: folder.slot.number(spot.leaf),
         bytes: change.unwrap_or([0; 512]),
     }
 }
