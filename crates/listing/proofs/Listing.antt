@@ -50,10 +50,6 @@ fill_more before lines after k x h e ea =
     ∙ set_at (replicate k x) (get_or before k x) (drop (k + 1) before) x k (length-replicate k x)
     ∙ sym (append_assoc (replicate k x) (x ∷ []) (drop (k + 1) before)) ∙ ap (λ z. z ++ drop (k + 1) before) (replicate_more k x)
 
-pub fill_all : {L : Type 0} (before lines : List L) (k : ℕ) (x : L) → length before ≡ k → lines ≡ replicate k x ++ drop k before → lines ≡ replicate (length before) x
-fill_all before lines k x len e =
-    e ∙ ap (λ z. replicate k x ++ z) (drop_all k before (omega arith)) ∙ append-nil (replicate k x) ∙ ap (λ n. replicate n x) (sym len)
-
 -- a name written over zeros
 pub named : (n : ℕ) (h : List ℕ) → h ++ post_of 0 (length h - 0) (replicate n 0) ≡ h ++ replicate (n - length h) 0
 named n h = let m : n - (length h - 0) ≡ n - length h = omega arith in rw drop-replicate (ap (λ m. h ++ replicate m 0) m)
