@@ -48,7 +48,3 @@ fill_more before lines after k x h e ea =
     ea ∙ ap (λ z. set z k x) (e ∙ ap (λ z. replicate k x ++ z) (drop_more before k x h))
     ∙ set_at (replicate k x) (get_or before k x) (drop (k + 1) before) x k (length-replicate k x)
     ∙ sym (append_assoc (replicate k x) (x ∷ []) (drop (k + 1) before)) ∙ ap (λ z. z ++ drop (k + 1) before) (replicate_more k x)
-
-pub fill_all : {L : Type 0} (before lines : List L) (k : ℕ) (x : L) → length before ≡ k → lines ≡ replicate k x ++ drop k before → lines ≡ replicate (length before) x
-fill_all before lines k x len e =
-    e ∙ ap (λ z. replicate k x ++ z) (drop_all k before (omega arith)) ∙ append-nil (replicate k x) ∙ ap (λ n. replicate n x) (sym len)

@@ -36,3 +36,7 @@ module _ {L : Type 0} where
   -- all that was added, over lines where nothing was listed
   pub adds_all : (a : ℕ) (xs : List L) (l : List L) (c : ℕ) (l' : List L) → a < 2 ^ 64 → Adds a xs 0 l c l' → Sofar l xs c l'
   adds_all a xs l c l' h p = p.onto l [] (omega (arith, p.few, h)) (none_yet l)
+
+  -- what a list holds is what the caller's lines are left with
+  pub listed_to : (before begun : List L) (xs ys : List L) (c c' : ℕ) (l l' : List L) → begun ≡ before → xs ≡ ys → c' ≡ c → l ≡ l' → Sofar begun xs c l → Sofar before ys c' l'
+  listed_to before begun xs ys c c' l l' eb ex ec el s = rw (sym eb, sym ex, ec, sym el) s

@@ -1,5 +1,6 @@
 pub mod Adding
 pub mod Rows
+pub mod Chunks
 pub mod Damages
 pub mod Ticks
 pub mod Marking
