@@ -27,8 +27,12 @@ fn leaf_in(
     ensures { MatchOption result (names kind line.now (parsed (sizes g.now) at.0 block.now) ≡ false) (λ l. (names kind line.now (parsed (sizes g.now) at.0 block.now) ≡ true) × Holds l (parsed (sizes g.now) at.0 block.now)) }
 {
     match (parse(g, at, block), kind) {
-        (Block::FileBody(body), Kind::File) | (Block::FolderBody(body), Kind::Folder)
-            if names(&body, line) => { Some(LeafCopy::new(body.payload)) }
+        (Block::FileBody(body), Kind::File) if names(&body, line) => {
+            Some(LeafCopy::new(body.payload))
+        }
+        (Block::FolderBody(body), Kind::Folder) if names(&body, line) => {
+            Some(LeafCopy::new(body.payload))
+        }
         _ => None,
     }
 }
