@@ -15,7 +15,7 @@ use Rattle.rule.specs.Meaning.{Body}
 use Rattle.rule.proofs.Steps.{names_true}
 use Rattle.walk.specs.Copies.{Holds, LeafIs}
 use Rattle.walk.specs.Finding.{leaf_places}
-use Rattle.walk.specs.declared.leaf.LeafCopy.{LeafCopy}
+use Rattle.walk.specs.declared.leaf_copy.LeafCopy.{LeafCopy}
 use Rattle.walk.proofs.Finding.{first_past, first_here}
 use Rattle.change.specs.declared.scan.Sought.{Sought}
 use Rattle.change.specs.declared.scan.Sought.TheVariants.{Open}

@@ -7,7 +7,7 @@ use Rattle.marks.specs.Marks.{is_child}
 use Rattle.marks.specs.declared.mark.Marks.{Marks}
 use Rattle.rule.specs.Agree.{View, Place, first, has_name, number, cells_in, places_of, places}
 use Rattle.walk.specs.Finding.{leaf_places}
-use Rattle.walk.specs.declared.leaf.LeafCopy.{LeafCopy}
+use Rattle.walk.specs.declared.leaf_copy.LeafCopy.{LeafCopy}
 use Rattle.change.specs.declared.scan.Sought.{Sought}
 use Rattle.change.specs.declared.scan.Sought.TheVariants.{Entry as AnyEntry, Named, Open}
 use Rattle.change.specs.declared.scan.Spot.{Spot}

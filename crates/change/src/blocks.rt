@@ -100,7 +100,7 @@ pub(crate) fn cell_put(folder: &Node, spot: &Spot, cell: &[u8; 32]) -> Put
         owner: folder.handle,
         leaf: spot.leaf,
     };
-    let change = encode_folder_change(&line, &spot.copy.bytes[0..480], spot.place, cell);
+    let change = encode_folder_change(&line, spot.copy.folder_bytes(), spot.place, cell);
     Put {
         block: folder.slot.number(spot.leaf),
         bytes: change.unwrap_or([0; 512]),

@@ -10,7 +10,7 @@ use crate::known::Known;
 use base::owner::{Handle, Kind};
 use base::refusal::Refusal;
 use device::Device;
-use walk::handle::{read_handle, want_kind};
+use walk::handle::read_handle;
 use walk::node::Node;
 
 // The handle with its slot, if the slot fits, is reached and is of this kind. One read.
@@ -26,9 +26,10 @@ pub(crate) fn read_changing<D: Device>(
     if !known.marks.is_reached(handle.slot) {
         return Err(Refusal::NoSuchHandle(handle.slot));
     }
-    want_kind(kind, handle, &slot)?;
-    Ok(Node {
+    let node = Node {
         handle: *handle,
         slot,
-    })
+    };
+    node.want_kind(kind)?;
+    Ok(node)
 }

@@ -17,7 +17,8 @@ use device::Device;
 use device::fault::Fault;
 use entries::entry::{Cell, cell_bytes, parse_cell};
 use layout::geometry::Geometry;
-use walk::leaf::{LeafCopy, read_leaf};
+use walk::leaf::read_leaf;
+use walk::leaf_copy::LeafCopy;
 use walk::node::Node;
 use walk::path::ROOT;
 
@@ -82,7 +83,7 @@ fn spot_in(
 ) -> Option<Spot>
     ensures { SpotIn (sizes known.now.geometry) known.now.marks.now folder.now sought.entry leaf.0 copy.now result }
 {
-    let place = find_place(known, folder, sought, &copy.bytes[0..480])?;
+    let place = find_place(known, folder, sought, copy.folder_bytes())?;
     Some(Spot {
         leaf,
         place,
@@ -118,7 +119,7 @@ fn scan_leaf<D: Device>(
     requires { folder.now.slot.kind ≡ Folder }
     ensures { Says known.now.geometry result (LeafScanned (sizes known.now.geometry) (shows known.now.geometry (D.Device.model device.old)) known.now.marks.now folder.now.handle (copied folder.now.slot) leaf.0 sought.entry before) (D.Device.model device.old) (D.Device.model device.new) }
 {
-    let Some(copy) = read_leaf(device, &known.geometry, folder.handle, &folder.slot, leaf)? else {
+    let Some(copy) = read_leaf(device, &known.geometry, folder, leaf)? else {
         return Ok(Scan {
             found: None,
             vacant: before,
@@ -173,7 +174,7 @@ fn child_in(g: &Geometry, bytes: &[u8]) -> Handle
 pub(crate) fn child_at(g: &Geometry, spot: &Spot) -> Handle
     ensures { spot.now.place < 15 → result ≡ child_of (entry_of (sizes g.now) (slice_index_or (cells (take 480 spot.now.copy.bytes)) spot.now.place [])) }
 {
-    match cell_bytes(&spot.copy.bytes[0..480], spot.place) {
+    match cell_bytes(spot.copy.folder_bytes(), spot.place) {
         Some(bytes) => child_in(g, bytes),
         None => ROOT,
     }
