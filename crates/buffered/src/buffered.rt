@@ -17,7 +17,7 @@ pub struct Buffered<D: Device> {
     below: D,
     table: [Option<Put>; 8],
     gone: bool,
-    ghost inside: { Inside table (D.Device.model below).count },
+    pub ghost inside: { Inside table (D.Device.model below).count },
 }
 
 impl<D: Device> Buffered<D> {
