@@ -28,9 +28,6 @@ module _ (g : Geometry) (es : List Cell) (k h r : ℕ) where
   pub in_all : length es ≤ k → max h (highest_in g (drop k es)) ≡ r → h ≡ r
   in_all le e = sym (max_zero h) ∙ ap (max h) (sym (at_drop_all (highest_in g) es k le ∙ in_none)) ∙ e
 
-pub start : (r : ℕ) → max 0 r ≡ r
-start r = omega arith
-
 -- the highest is that of one of two
 max_is : (a b : ℕ) → (max a b ≡ a) ⊎ (max a b ≡ b)
 max_is a b = ⊎_elim (λ (h : a < b). inr (omega arith)) (λ (h : b ≤ a). inl (omega arith)) (cases_lt a b)

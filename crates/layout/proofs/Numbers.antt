@@ -3,7 +3,7 @@ use Rattle.std.proofs.Common.{◌≡◌, ℕ, zero, suc, ◌+◌, ◌-◌, ◌*�
 use Rattle.std.proofs.lemmas.List.{get_or-drop, get_or-take, drop-take, length-take-le}
 use Rattle.std.proofs.lemmas.Bool.{and_parts, leb-true}
 use Rattle.std.specs.Simd.{first_chunks}
-use Rattle.layout.specs.View.{all_numbers, SlotSized}
+use Rattle.layout.specs.View.{all_numbers}
 use Rattle.base.specs.declared.owner.Kind.{Kind}
 use Rattle.layout.specs.declared.block.parsing.SlotHead.{SlotHead}
 use Rattle.layout.specs.Head.{slot_head_fits, slot_by}
@@ -56,9 +56,6 @@ module _ (c : ℕ) (z : List ℕ) (h : 2 * c ≤ length z) where
       ap (λ n. numbers_of n (take (2 * c - 0) z)) part_count
       ∙ ap (λ m. numbers_of c (take m z)) (omega arith) ∙ numbers_take c z
 
-  pub part_sized : c ≤ 64 → SlotSized (take (2 * c - 0) z)
-  part_sized few = (omega (arith, part_length, part_count), omega (arith, part_count))
-
 -- the k-th number
 pub number_at : (n k : ℕ) (z : List ℕ) → k < n → get_or (numbers_of n z) k 0 ≡ le16 z (2 * k)
 number_at zero k z lt = absurd (omega arith)
@@ -83,9 +80,3 @@ module _ (g : Geometry) (h : SlotHead) (z : List ℕ) (len : length z ≡ 496) (
   slot_spoilt e bodies =
       let bodies' : all_bodies g (numbers_of h.count z) ≡ false = ap (all_bodies g) (sym numbers_are) ∙ bodies in
       rw (fits, bodies')
-
--- each number of a row of bodies is a body's
-pub body_at : (g : Geometry) (ns : List ℕ) (k : ℕ) → all_bodies g ns ≡ true → k < length ns → body_number g (get_or ns k 0) ≡ true
-body_at g [] k h lt = absurd (omega arith)
-body_at g (n ∷ ns) zero h lt = (and_parts (body_number g n) (all_bodies g ns) h).0
-body_at g (n ∷ ns) (suc k) h lt = body_at g ns k (and_parts (body_number g n) (all_bodies g ns) h).1 (omega arith)

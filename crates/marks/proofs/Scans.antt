@@ -20,18 +20,12 @@ from_more i h l = ap (from i) n ∙ ap (λ (j : ℕ). i ∷ from j (h - (i + 1))
     next : suc i ≡ i + 1
     next = omega arith
 
-from_past : (i h : ℕ) → h ≤ i → from i (h - i) ≡ []
-from_past i h l = let n : h - i ≡ 0 = omega arith in ap (from i) n
-
 module _ (p : ℕ → Bool) (i h : ℕ) where
   pub first_here : i < h → p i ≡ true → first p (from i (h - i)) ≡ Some i
   first_here l e = ap (first p) (from_more i h l) ∙ cond-true (p i) (Some i) (first p (from (i + 1) (h - (i + 1)))) e
 
   pub first_on : i < h → p i ≡ false → first p (from i (h - i)) ≡ first p (from (i + 1) (h - (i + 1)))
   first_on l e = ap (first p) (from_more i h l) ∙ cond-false (p i) (Some i) (first p (from (i + 1) (h - (i + 1)))) e
-
-  pub first_none : h ≤ i → first p (from i (h - i)) ≡ None
-  first_none l = ap (first p) (from_past i h l)
 
 -- how many places of a part are free
 pub counted : {A : Type 0} (xs : List (Option A)) (i n : ℕ) → i + n ≤ length xs → length (those (unmarked xs) (from i n)) ≡ count_by is_unmarked (take n (drop i xs))
