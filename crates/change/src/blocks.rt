@@ -25,6 +25,7 @@ pub(crate) fn after(n: u16) -> u16
 }
 
 // The block of a slot.
+// Kept: a public slot number takes all 16 bits and no type may take fewer, so clauses here begin with at.0 < 65535.
 fn block_of(at: SlotNo) -> BlockNo
     ensures { at.0 < 65535 → result ≡ block_no (suc at.0) }
 {
