@@ -1,10 +1,19 @@
-use Rattle.std.proofs.Common.{ℕ, ◌*◌, drop, sym, ap, ◌∙◌, arith}
+use Rattle.std.proofs.Common.{◌≡◌, refl, ℕ, ◌*◌, drop, sym, ap, ◌∙◌, arith}
 use Rattle.layout.specs.Head.{cells}
 use Rattle.layout.specs.Sizes.{sizes}
 use Rattle.layout.proofs.Cells.{length_cells}
 use Rattle.change.specs.Scanning.{passes, at_cell}
 use Rattle.change.proofs.Scanning.{cell_next, cells_over, place_on, place_here, place_end}
 use Rattle.change.proofs.scan.find_place.Goals as goal
+
+pub loop-place-init : goal.loop-place-init
+loop-place-init c =
+    let i = c.into_iter-place-iterator.ensures.into_iter_gives in
+    let e = c.enumerate-place-items.ensures in
+    let count : c.into_iter-place-iterator.result.count ≡ 0 = cc in
+    let rest : c.into_iter-place-iterator.result.iter.rest.now ≡ c.args.payload.now = cc in
+    let size : c.into_iter-place-iterator.result.iter.size ≡ 32 = cc in
+    record { rest = rw count rest; size = size; inside = omega arith; same = rw count (λ k. refl) }
 
 pub returns-then-is_sought : goal.returns-then-is_sought
 returns-then-is_sought c =
