@@ -1,5 +1,5 @@
 -- The rows of damage, leaf by leaf and slot by slot.
-use Rattle.std.proofs.Common.{◌≡◌, ℕ, ◌+◌, Bool, true, false, cond, not, List, [], ◌∷◌, ◌++◌, map, get_or, Some, None, Option, sym, refl, ap, ◌∙◌}
+use Rattle.std.proofs.Common.{◌≡◌, ℕ, ◌+◌, Bool, true, false, cond, not, List, [], ◌∷◌, ◌++◌, map, get_or, Some, Option, sym, refl, ap, ◌∙◌}
 use Rattle.std.proofs.lemmas.List.{append_assoc, append-nil, map-append}
 use Rattle.std.proofs.lemmas.Simd.{map-map}
 use Rattle.std.proofs.lemmas.Bool.{cond-true, cond-false}
@@ -22,9 +22,6 @@ module _ (g : Geometry) (v : View) where
   slot_there s r e =
       sym (ap (λ (o : Option Slot). map damage_row (bad_leaves_of v s o)) e
       ∙ map-map damage_row (λ (k : ℕ). record { slot = s; leaf = k }) (those (λ k. not (good v (handle s r.identity) r k)) (from 0 (count r))))
-
-  pub slot_missing : (s : ℕ) → slot_at g v s ≡ None → [] ≡ slot_rows g v s
-  slot_missing s e = sym (ap (λ (o : Option Slot). map damage_row (bad_leaves_of v s o)) e)
 
   bad_append : (xs ys : List ℕ) → bad_leaves g v (xs ++ ys) ≡ bad_leaves g v xs ++ bad_leaves g v ys
   bad_append [] ys = refl

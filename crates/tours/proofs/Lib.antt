@@ -1,4 +1,5 @@
 pub mod Adding
+pub mod Spared
 pub mod Rows
 pub mod Chunks
 pub mod Damages

@@ -158,12 +158,6 @@ module _ (z : Geometry) (w x : Work) (s : SlotNo) (out : Handed (Some s) w x) wh
   same_queue : (i : ℕ) → queued x.queue i ≡ queued w.queue i
   same_queue i = ap (λ (ss : List SlotNo). queued ss i) out.1
 
-  pub next_way : (v : View) → Underway z v w → Chain z v s.0 × Chained z v x
-  next_way v u = (
-    subst (Chain z v) (sym out.3.1) (u.chained w.head out.3.0),
-    λ i l. subst (Chain z v) (sym (same_queue i)) (u.chained i (omega (arith, out.2))),
-  )
-
   -- and its children are marked
   pub next_done : (m k : Model) (y : Work) → Still m k → Underway z (seen z m.shown) w → Onward z (seen z k.shown) x y → Done z (seen z k.shown) s.0 y.marks → Underway z (seen z m.shown) y
   next_done m k y st u on now = record {
