@@ -1,4 +1,4 @@
-use Rattle.std.proofs.Common.{◌≡◌, ◌∙◌}
+use Rattle.std.proofs.Common.{◌∙◌}
 use Rattle.encode.specs.Heads.{Placed}
 use Rattle.change.proofs.Numbers.{not_refused, put_same}
 use Rattle.change.proofs.blocks.cell_put.Goals as goal

@@ -20,8 +20,7 @@ mark_cells-requires g c =
     let e = c.in_ok-copy.ensures in
     let is = subst (LeafIs (seen z m.shown) f r c.args.leaf.0) c.in-Some.is e.1 in
     let es = cells c.folder_bytes.result.now in
-    let same = leaf_cells z (seen z m.shown) f r c.args.leaf.0 l es (ap cells c.folder_bytes.ensures.value) c.requires.0.kind is.0 is.1 in
-    (
+    let same = leaf_cells z (seen z m.shown) f r c.args.leaf.0 l es (ap cells c.folder_bytes.ensures.value) c.requires.0.kind is.0 is.1 in (
       c.folder_bytes.ensures.count,
       (
         moved (λ (sh : Shown). Chained z (seen z sh) c.args.work.now) m k e.0 c.requires.1,
