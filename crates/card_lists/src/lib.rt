@@ -32,6 +32,7 @@ fn zero_if_gone<L: Line>(answer: &Result<usize, Refusal>, lines: &mut [L])
 }
 
 // Fills the lines with what is asked for and answers its whole number.
+// Kept: the device and the geometry are two parameters: a struct that lends the device needs in each method a clause more, that it lends the same one.
 pub fn list_all<A: Asked, D: Device>(
     asked: &A,
     device: &mut D,

@@ -18,7 +18,7 @@ use Rattle.walk.proofs.Finding.{leaf_cells as copied_cells}
 use Rattle.walk.specs.declared.slot.SlotCopy.{SlotCopy}
 use Rattle.walk.specs.declared.leaf_copy.LeafCopy.{LeafCopy}
 use Rattle.walk.specs.Finding.{leaf_places}
-use Rattle.tours.specs.Lists.{entry_row, entry_lines, entry_rows, cell_rows}
+use Rattle.tours.specs.Lists.{Adds, entry_row, entry_lines, entry_rows, cell_rows}
 
 pub those_append : {A : Type 0} (p : A → Bool) (xs ys : List A) → those p (xs ++ ys) ≡ those p xs ++ those p ys
 those_append p [] ys = refl
@@ -42,6 +42,11 @@ module _ (g : Geometry) (v : View) (f : Handle) where
   -- an entry is sound where its child's slot is there
   pub child_there : (n : Name) (c : Handle) (o : Option SlotCopy) → option_map copied o ≡ child_slot g v f c → is_some o ≡ true → agrees g v f (entry n c) ≡ true
   child_there n c o e there = grind (arith, common_steps)
+
+  -- where it is not there, nothing is added
+  pub unsound : (e : Cell) (n : Name) (c : Handle) (o : Option SlotCopy) (count : ℕ) (lines : List EntryRow) → option_map copied o ≡ child_slot g v f c → is_some o ≡ false → entry n c ≡ entry_of g e →
+      Adds 1 (cell_rows g v f (e ∷ [])) count lines count lines
+  unsound e n c o count lines k missing q = grind (arith, common_steps)
 
   pub rows_more : (es : List Cell) (i : ℕ) (e : Cell) → i < length es → e ≡ get_or es i [] → cell_rows g v f (take i es) ++ cell_rows g v f (e ∷ []) ≡ cell_rows g v f (take (i + 1) es)
   rows_more es i e l is =

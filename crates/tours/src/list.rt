@@ -33,6 +33,7 @@ fn put_entry(lines: &mut Lines<'_, EntryLine>, name: &[u8], child: &Handle)
 }
 
 // Adds the entry in a cell of the folder's leaf, if it is sound.
+// Kept: the device and the geometry are two parameters: a struct that lends the device needs in each method a clause more, that it lends the same one.
 fn list_cell<D: Device>(
     device: &mut D,
     g: &Geometry,
