@@ -27,7 +27,7 @@ pub struct Body<'a> {
 }
 
 // A folder's leaf: the 15 cells of its entries.
-// Kept: (d) two structs, since each has its own fact of how long the payload is.
+// Kept: two structs, since each has its own fact of how long the payload is.
 #[derive(Clone, Copy, PartialEq, Eq, Debug)]
 pub struct FolderBody<'a> {
     pub back: Back,

@@ -44,7 +44,7 @@ fn whole_arrays(slots: &[Option<SlotMark>; 256], bodies: &[Option<Back>; 4096]) 
 
 impl Marks {
     // Computes nothing: says that there is a place for every slot and every block.
-    // Kept: (d) a ghost field cannot say it, since definitions make marks of lists of any length.
+    // Kept: a ghost field cannot say it, since definitions make marks of lists of any length.
     pub fn whole(&self) -> u8
         ensures { Whole self.now }
     {

@@ -14,7 +14,7 @@ pub(crate) fn mark_at<T: Copy>(marks: &[Option<T>], at: u16) -> Option<T>
 pub(crate) fn set_mark<T: Copy>(marks: &mut [Option<T>], at: u16, mark: Option<T>)
     ensures { marks.new ≡ slice_set marks.old at mark }
 {
-    // Kept: (c) with `get_mut` it does not close, since std says nothing of what the slice ends as.
+    // Kept: with `get_mut` it does not close, since std says nothing of what the slice ends as.
     let i = at as usize;
     if i < marks.len() {
         marks[i] = mark;
@@ -28,7 +28,7 @@ fn is_free<T: Copy>(marks: &[Option<T>], at: u16) -> bool
 }
 
 // The first free place from low up to high.
-// Kept: (d) the places are the answer, and next to the elements of a slice they would have to be counted from low again.
+// Kept: the places are the answer, and next to the elements of a slice they would have to be counted from low again.
 fn first_free<T: Copy>(marks: &[Option<T>], low: u16, high: u16) -> Option<u16>
     ensures { result ≡ first (unmarked marks.now) (from low (high - low)) }
 {

@@ -28,7 +28,7 @@ struct BodyHead {
     used: u16,
 }
 
-// Kept: (d) a slot and a body name other fields at other places; one function would have to choose at each of them.
+// Kept: a slot and a body name other fields at other places; one function would have to choose at each of them.
 fn slot_head(count: [u8; 2], identity: [u8; 4], parent: [u8; 4], slot: [u8; 2]) -> SlotHead
     ensures { result ≡ slot_head count identity parent slot }
 {
@@ -150,7 +150,7 @@ fn any_cover<'a>(block: &[u8; 512]) -> Block<'a>
     }
 }
 
-// Kept: (d) as for the heads: the pattern is the layout of a slot, the one below is that of a body.
+// Kept: as for the heads: the pattern is the layout of a slot, the one below is that of a body.
 fn any_slot<'a>(g: &Geometry, kind: Kind, block: &'a [u8; 512]) -> Block<'a>
     ensures { view result ≡ slot_of (sizes g.now) kind block.now }
 {
