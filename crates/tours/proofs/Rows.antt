@@ -1,5 +1,5 @@
 -- The rows of a folder's entries, cell by cell and leaf by leaf.
-use Rattle.std.proofs.Common.{◌≡◌, ℕ, zero, suc, ◌+◌, ◌<◌, ◌≤◌, Bool, true, false, cond, ltb, List, [], ◌∷◌, ◌++◌, map, length, get_or, take, Option, sym, refl, ap, ◌∙◌, subst, inl, inr, add-one, arith}
+use Rattle.std.proofs.Common.{◌≡◌, ℕ, zero, suc, ◌+◌, ◌<◌, ◌≤◌, Bool, true, false, cond, ltb, List, [], ◌∷◌, ◌++◌, map, length, get_or, take, Option, sym, refl, ap, ◌∙◌, inl, inr, add-one, arith}
 use Rattle.std.proofs.lemmas.List.{append_assoc, append-nil, map-append, take_more, take_all}
 use Rattle.std.proofs.lemmas.Bool.{cond-true, and_parts}
 use Rattle.base.specs.declared.owner.Kind.TheVariants.{File, Folder}
@@ -13,9 +13,10 @@ use Rattle.rule.proofs.Steps.{names_true}
 use Rattle.listing.specs.declared.line.EntryLine.{EntryLine as EntryRow}
 use Rattle.std.specs.Option.{option_map, is_some}
 use Rattle.std.proofs.lemmas.Grind.{common_steps}
-use Rattle.walk.specs.Copies.{copied, child_slot, Holds}
+use Rattle.walk.specs.Copies.{copied, child_slot, Holds, folder_bytes}
+use Rattle.walk.proofs.Finding.{leaf_cells as copied_cells}
 use Rattle.walk.specs.declared.slot.SlotCopy.{SlotCopy}
-use Rattle.walk.specs.declared.leaf.LeafCopy.{LeafCopy}
+use Rattle.walk.specs.declared.leaf_copy.LeafCopy.{LeafCopy}
 use Rattle.walk.specs.Finding.{leaf_places}
 use Rattle.tours.specs.Lists.{Adds, entry_row, entry_lines, entry_rows, cell_rows}
 
@@ -94,18 +95,12 @@ module _ (g : Geometry) (v : View) (f : Handle) where
     body_of k e = names_true r.kind (back f k) (v (number r k)) (and_parts (ltb k (count r)) (names r.kind (back f k) (v (number r k))) e).1
 
     -- the cells of a good leaf, as copied
-    pub leaf_cells : (k : ℕ) (l : LeafCopy) → r.kind ≡ Folder → good v f r k ≡ true → Holds l (v (number r k)) → (l.used ≡ 480) × (cells (take 480 l.bytes) ≡ cells_in (v (number r k)))
-    leaf_cells k l d e h = go (body_of k e)
-      where
-        go : Body r.kind (back f k) (v (number r k)) → (l.used ≡ 480) × (cells (take 480 l.bytes) ≡ cells_in (v (number r k)))
-        go (inl (x, file, is)) = no_kind (sym file ∙ d)
-        go (inr (es, folder, is)) =
-            let w = subst (Holds l) is h in
-            (w.0, ap (λ (u : ℕ). cells (take u l.bytes)) (sym w.0) ∙ w.1 ∙ ap cells_in (sym is))
+    pub leaf_cells : (k : ℕ) (l : LeafCopy) (cs : List Cell) → cs ≡ cells (folder_bytes l) → r.kind ≡ Folder → good v f r k ≡ true → Holds l (v (number r k)) → cs ≡ cells_in (v (number r k))
+    leaf_cells k l cs q d e h = q ∙ copied_cells v f r k l d e h
 
-    pub leaf_good : (k : ℕ) (l : LeafCopy) → r.kind ≡ Folder → good v f r k ≡ true → Holds l (v (number r k)) → cell_rows g v f (cells (take 480 l.bytes)) ≡ entry_rows g v f (leaf_places v f r k)
-    leaf_good k l d e h =
-        ap (cell_rows g v f) (leaf_cells k l d e h).1
+    pub leaf_good : (k : ℕ) (l : LeafCopy) (cs : List Cell) → cs ≡ cells (folder_bytes l) → r.kind ≡ Folder → good v f r k ≡ true → Holds l (v (number r k)) → cell_rows g v f cs ≡ entry_rows g v f (leaf_places v f r k)
+    leaf_good k l cs q d e h =
+        ap (cell_rows g v f) (leaf_cells k l cs q d e h)
         ∙ sym (ap (entry_rows g v f) (cond-true (good v f r k) _ _ e) ∙ place_rows k 0 (cells_in (v (number r k))))
 
     -- a file has no entries

@@ -29,7 +29,7 @@ fn check_leaf<D: Device>(
     ensures added { Lists g.now result 1 (leaf_rows (shows g.now (D.Device.model device.old)) node.now.handle (copied node.now.slot) (leaf.0 ∷ [])) (D.Device.model device.old) (D.Device.model device.new) lines.old lines.new }
     ensures same { lines.new.lines.ghost_name ≡ lines.old.lines.ghost_name }
 {
-    if read_leaf(device, g, node.handle, &node.slot, leaf)?.is_none() {
+    if read_leaf(device, g, node, leaf)?.is_none() {
         lines.add(DamageLine {
             slot: node.handle.slot,
             leaf,

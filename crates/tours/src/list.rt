@@ -84,10 +84,10 @@ fn list_leaf<D: Device>(
     ensures added { Lists g.now result 15 (entry_rows (sizes g.now) (shows g.now (D.Device.model device.old)) folder.now.handle (leaf_places (shows g.now (D.Device.model device.old)) folder.now.handle (copied folder.now.slot) leaf.0)) (D.Device.model device.old) (D.Device.model device.new) lines.old lines.new }
     ensures same { lines.new.lines.ghost_name ≡ lines.old.lines.ghost_name }
 {
-    let Some(copy) = read_leaf(device, g, folder.handle, &folder.slot, leaf)? else {
+    let Some(copy) = read_leaf(device, g, folder, leaf)? else {
         return Ok(());
     };
-    list_cells(device, g, &folder.handle, &copy.bytes[0..480], lines)
+    list_cells(device, g, &folder.handle, copy.folder_bytes(), lines)
 }
 
 // Fills the lines with the sound entries of a folder, by leaf, then place, and answers their whole number; a file has none.

@@ -66,10 +66,10 @@ fn mark_leaf<D: Device>(
     requires { (Open (sizes g.now) (shows g.now (D.Device.model device.old)) folder.now.handle (copied folder.now.slot)) × (Chained (sizes g.now) (shows g.now (D.Device.model device.old)) work.old) }
     ensures { Worked g.now result (LeafDone (sizes g.now) (shows g.now (D.Device.model device.old)) folder.now.handle (copied folder.now.slot) leaf.0) (D.Device.model device.old) (D.Device.model device.new) work.old work.new }
 {
-    let Some(copy) = read_leaf(device, g, folder.handle, &folder.slot, leaf)? else {
+    let Some(copy) = read_leaf(device, g, folder, leaf)? else {
         return Ok(());
     };
-    mark_cells(device, g, &folder.handle, &copy.bytes[0..480], work)
+    mark_cells(device, g, &folder.handle, copy.folder_bytes(), work)
 }
 
 // Enters the children in the leaves of a folder.

@@ -1,4 +1,4 @@
-use Rattle.std.proofs.Common.{take, subst, arith}
+use Rattle.std.proofs.Common.{ap, subst, arith}
 use Rattle.layout.specs.Head.{cells}
 use Rattle.layout.specs.Sizes.{sizes}
 use Rattle.rule.specs.Agree.{Shown, seen}
@@ -19,15 +19,16 @@ returns-clause-added g c =
     let f = c.args.folder.now.handle in
     let r = copied c.args.folder.now.slot in
     let l = c.in-Some.copy in
+    let es = cells c.folder_bytes.result.now in
     let e = c.in_ok-copy.ensures in
     let is = subst (LeafIs (seen z m.shown) f r c.args.leaf.0) c.in-Some.is e.1 in
     let was = c.args.lines.now in
     let now = c.list_cells.new.lines in
     says_then c.args.g.now c.list_cells.result
-    (λ _. Adds 15 (cell_rows z (seen z k.shown) f (cells (take 480 l.bytes))) was.count was.lines.now now.count now.lines.now)
+    (λ _. Adds 15 (cell_rows z (seen z k.shown) f es) was.count was.lines.now now.count now.lines.now)
     (λ _. Adds 15 (entry_rows z (seen z m.shown) f (leaf_places (seen z m.shown) f r c.args.leaf.0)) was.count was.lines.now now.count now.lines.now)
     m k n e.0
     (λ _ h. adds_is 15 15 _ _ _ _ _ _ (omega arith)
-    (leaf_good z (seen z m.shown) f r c.args.leaf.0 l c.requires is.0 is.1)
-    (subst (λ (sh : Shown). Adds 15 (cell_rows z (seen z sh) f (cells (take 480 l.bytes))) was.count was.lines.now now.count now.lines.now) e.0.kept.shown h))
+    (leaf_good z (seen z m.shown) f r c.args.leaf.0 l es (ap cells c.folder_bytes.ensures.value) c.requires is.0 is.1)
+    (subst (λ (sh : Shown). Adds 15 (cell_rows z (seen z sh) f es) was.count was.lines.now now.count now.lines.now) e.0.kept.shown h))
     c.list_cells.ensures.added

@@ -1,4 +1,4 @@
-use Rattle.std.proofs.Common.{◌≡◌, length, take, sym, subst, rules}
+use Rattle.std.proofs.Common.{ap, sym, subst}
 use Rattle.layout.specs.Head.{cells}
 use Rattle.layout.specs.Sizes.{sizes}
 use Rattle.layout.proofs.Cells.{length_cells}
@@ -19,12 +19,12 @@ mark_cells-requires g c =
     let l = c.in-Some.copy in
     let e = c.in_ok-copy.ensures in
     let is = subst (LeafIs (seen z m.shown) f r c.args.leaf.0) c.in-Some.is e.1 in
-    let same = (leaf_cells z (seen z m.shown) f r c.args.leaf.0 l c.requires.0.kind is.0 is.1).1 in
-    let whole : length (take 480 c.in-Some.copy.bytes) ≡ 480 = search rules in (
-      whole,
+    let es = cells c.folder_bytes.result.now in
+    let same = leaf_cells z (seen z m.shown) f r c.args.leaf.0 l es (ap cells c.folder_bytes.ensures.value) c.requires.0.kind is.0 is.1 in (
+      c.folder_bytes.ensures.count,
       (
         moved (λ (sh : Shown). Chained z (seen z sh) c.args.work.now) m k e.0 c.requires.1,
-        moved (λ (sh : Shown). CellsChained z (seen z sh) f (cells (take 480 l.bytes))) m k e.0
+        moved (λ (sh : Shown). CellsChained z (seen z sh) f es) m k e.0
             (subst (CellsChained z (seen z m.shown) f) (sym same) (leaf_chained z (seen z m.shown) f r c.args.leaf.0 c.requires.0 is.0)),
       ),
     )
@@ -37,11 +37,11 @@ returns g c =
     let f = c.args.folder.now.handle in
     let r = copied c.args.folder.now.slot in
     let l = c.in-Some.copy in
-    let es = cells (take 480 l.bytes) in
+    let es = cells c.folder_bytes.result.now in
     let e = c.in_ok-copy.ensures in
     let is = subst (LeafIs (seen z m.shown) f r c.args.leaf.0) c.in-Some.is e.1 in
-    let same = (leaf_cells z (seen z m.shown) f r c.args.leaf.0 l c.requires.0.kind is.0 is.1).1 in
+    let same = leaf_cells z (seen z m.shown) f r c.args.leaf.0 l es (ap cells c.folder_bytes.ensures.value) c.requires.0.kind is.0 is.1 in
     let ms' = c.mark_cells.new.work.marks in
     worked_then c.args.g.now c.mark_cells.result (CellsDone z (seen z k.shown) f es 15) (LeafDone z (seen z m.shown) f r c.args.leaf.0) m k _ c.args.work.now c.mark_cells.new.work e.0
-    (λ h. leaf_done z (seen z m.shown) f r c.args.leaf.0 es ms' same (length_cells (take 480 l.bytes)) (moved_back (λ (sh : Shown). CellsDone z (seen z sh) f es 15 ms') m k e.0 h))
+    (λ h. leaf_done z (seen z m.shown) f r c.args.leaf.0 es ms' same (length_cells c.folder_bytes.result.now) (moved_back (λ (sh : Shown). CellsDone z (seen z sh) f es 15 ms') m k e.0 h))
     c.mark_cells.ensures
