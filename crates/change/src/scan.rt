@@ -23,7 +23,7 @@ use walk::node::Node;
 use walk::path::ROOT;
 
 // What a scan looks for: any sound entry, a sound entry with the name, or a place that has no sound entry.
-#[derive(Clone, Copy)]
+#[derive(Clone, Copy, PartialEq, Eq, Debug)]
 pub enum Sought<'a> {
     Entry,
     Named(&'a [u8]),

@@ -97,6 +97,8 @@ impl Marks {
         next_free(&self.bodies, g.slots + 1, g.blocks, at).map(BlockNo)
     }
 
+    // Kept: slots and bodies have methods of their own, a line each over one generic function in `places`, so that a slot's
+    // number and a block's never stand in for one another.
     // How many slots are free.
     pub fn slots_left(&self, g: &Geometry) -> u16
         ensures { result ≡ slots_left (sizes g.now) self.now }
