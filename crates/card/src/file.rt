@@ -27,8 +27,5 @@ pub fn read_file<D: Device>(
         return Err(Refusal::NoSuchLeaf(leaf));
     }
     let copy = read_leaf(device, g, *handle, &slot, leaf)?;
-    match copy {
-        Some(l) => Ok(l),
-        None => Err(Refusal::LeafNotGood(slot.number(leaf))),
-    }
+    copy.ok_or(Refusal::LeafNotGood(slot.number(leaf)))
 }

@@ -1,25 +1,12 @@
 // A surveyed card: it can be read and changed. Whatever a call does is said as a step of the card's history.
-ghost use Rattle.std.specs.Prelude.{◌≡◌, ℕ, ◌≤◌, List, length, Some, None};
-ghost use Rattle.std.specs.Result.{result_map_both as mapped_answer};
+ghost use Rattle.std.specs.Prelude.{◌≡◌, ℕ, Some};
 ghost use Rattle.std.specs.Option.{option_map};
-ghost use Rattle.base.specs.declared.refusal.Refusal.TheVariants.{PowerGone};
-ghost use Rattle.device.specs.Effect.{first_outside};
-ghost use Rattle.device.specs.Model.{Cut};
 ghost use Rattle.layout.specs.Format.{back as leaf_line};
 ghost use Rattle.marks.specs.Marks.{with_gained};
-ghost use Rattle.rule.specs.Changing as changing;
-ghost use Rattle.rule.specs.Check.{Answer};
-ghost use Rattle.rule.specs.Reading as reading;
-ghost use Rattle.history.specs.Events.{Reads, Changes, Syncs};
-ghost use Rattle.tours.specs.Lists.{entry_row};
-ghost use Rattle.tours.specs.Damage.{damage_row};
-ghost use Rattle.card_lists.specs.Lined.{zero_entry, zero_damage};
-ghost use Rattle.card_lists.specs.Ready.{LinesOf};
-ghost use Rattle.change.specs.Plans.{puts_in};
-ghost use Rattle.card.specs.Calls.{Fills};
-ghost use Rattle.card.specs.Commits.{Puts, Commits};
-ghost use Rattle.card.specs.Valid.{Valid};
-ghost use Rattle.card.specs.Views.{status_view, space_view, block_number, gained_block, surveyed_on};
+ghost use Rattle.rule.specs.Changing.{synced};
+ghost use Rattle.card.specs.Once.{Known-prop};
+ghost use Rattle.card.specs.Valid.{Known};
+ghost use Rattle.card.specs.Views.{block_number, gained_block};
 
 use crate::inner::{Core, Status};
 use base::number::{BlockNo, LeafNo};
@@ -27,24 +14,24 @@ use base::owner::{Back, Handle, Kind};
 use base::refusal::{PathRefusal, Refusal};
 use change::create::plan_create;
 use change::drop::drop_leaves;
-use change::plan::{Gained, Memory, Plan};
+use change::plan::{Gained, Memory};
 use change::remove::plan_remove;
 use change::shorten::plan_shorten;
 use change::write::plan_write;
 use device::Device;
-use device::effect::write_all;
 use device::fault::Synced;
 use listing::line::{DamageLine, EntryLine};
 use marks::mark::{Marks, SlotMark};
 use power::PowerCut;
 use walk::path::check_name;
 
-// `memory` has the highest identity and the two cursors, `marks` what is reached and held.
+// `memory` has the highest identity and the two cursors, `marks` what is reached and held: both agree with the blocks shown.
 #[derive(Drop)]
-pub struct Surveyed<D> {
+pub struct Surveyed<D: Device> {
     pub(crate) core: Core<D>,
     pub(crate) memory: Memory,
     pub(crate) marks: Marks,
+    ghost known: { Known core.ready memory marks (D.Device.model core.device) } by { Known-prop core.ready memory marks (D.Device.model core.device) },
 }
 
 // How many bodies and how many slots are free.
@@ -54,21 +41,12 @@ pub struct Space {
     pub slots: u16,
 }
 
-// Writes the blocks of a plan.
-fn write_plan<D: Device>(device: &mut D, plan: &Plan) -> Result<(), Refusal>
-    ensures { plan.now.len ≤ 3 → first_outside (D.Device.model device.old).count (puts_in plan.now) ≡ None → Puts (puts_in plan.now) (D.Device.model device.old) result (D.Device.model device.new) }
-{
-    write_all(device, &plan.puts[0..plan.len.min(3)])?;
-    Ok(())
-}
-
 // Marks a body that a file gained, if it gained one.
 fn mark_gained(marks: &mut Marks, body: Option<BlockNo>, back: Back)
     ensures { marks.new ≡ with_gained marks.old (option_map block_number body) back }
 {
-    match body {
-        Some(at) => marks.set_body(at, Some(back)),
-        None => {}
+    if let Some(at) = body {
+        marks.set_body(at, Some(back));
     }
 }
 
@@ -76,20 +54,17 @@ fn mark_gained(marks: &mut Marks, body: Option<BlockNo>, back: Back)
 fn mark_leaf(marks: &mut Marks, gained: Option<Gained>, folder: &Handle)
     ensures { (k : ℕ) → ((y : Gained) → gained ≡ Some y → y.leaf.0 ≡ k) → marks.new ≡ with_gained marks.old (option_map gained_block gained) (leaf_line folder.now k) }
 {
-    match gained {
-        Some(y) => {
-            let back = Back {
-                owner: *folder,
-                leaf: y.leaf,
-            };
-            marks.set_body(y.block, Some(back));
-        }
-        None => {}
+    if let Some(y) = gained {
+        let back = Back {
+            owner: *folder,
+            leaf: y.leaf,
+        };
+        marks.set_body(y.block, Some(back));
     }
 }
 
 fn sync_answer(answer: Synced) -> Result<(), Refusal>
-    ensures { result ≡ changing.synced answer }
+    ensures { result ≡ synced answer }
 {
     match answer {
         Synced::Settled => Ok(()),
@@ -97,28 +72,39 @@ fn sync_answer(answer: Synced) -> Result<(), Refusal>
     }
 }
 
-// `Valid` is what the end of the survey gives and each call keeps, so it holds of every card.
 impl<D: Device> Surveyed<D> {
+    ghost use Rattle.std.specs.Prelude.{List, length};
+    ghost use Rattle.std.specs.Result.{result_map_both as mapped_answer};
+    ghost use Rattle.base.specs.declared.refusal.Refusal.TheVariants.{PowerGone};
+    ghost use Rattle.rule.specs.Changing as changing;
+    ghost use Rattle.rule.specs.Check.{Answer};
+    ghost use Rattle.rule.specs.Reading as reading;
+    ghost use Rattle.history.specs.Events.{Reads, Changes, Syncs};
+    ghost use Rattle.tours.specs.Lists.{entry_row};
+    ghost use Rattle.tours.specs.Damage.{damage_row};
+    ghost use Rattle.card_lists.specs.Lined.{zero_entry, zero_damage};
+    ghost use Rattle.card_lists.specs.Ready.{LinesOf};
+    ghost use Rattle.card.specs.Calls.{Fills};
+    ghost use Rattle.card.specs.Surveyed.{on};
+    ghost use Rattle.card.specs.Views.{status_view, space_view};
+
     // The child of a folder that has the name: the first sound entry, by leaf, then place.
     pub fn find(&mut self, folder: &Handle, name: &[u8]) -> Result<Handle, Refusal>
-        ensures reads { Valid D.Device.model self.old → Reads PowerGone (reading.find folder.now name.now) (surveyed_on D.Device.model self.old) result (surveyed_on D.Device.model self.new) }
-        ensures valid { Valid D.Device.model self.old → Valid D.Device.model self.new }
+        ensures reads { Reads PowerGone (reading.find folder.now name.now) (on D.Device.model self.old) result (on D.Device.model self.new) }
     {
         self.core.find(folder, name)
     }
 
     // The file or folder that a path leads to, from the root. A refusal tells the component too.
     pub fn path(&mut self, path: &[u8]) -> Result<Handle, PathRefusal>
-        ensures reads { Valid D.Device.model self.old → (i : ℕ) × Reads (λ b. record { lower = PowerGone b; component = i }) (reading.path path.now) (surveyed_on D.Device.model self.old) result (surveyed_on D.Device.model self.new) }
-        ensures valid { Valid D.Device.model self.old → Valid D.Device.model self.new }
+        ensures reads { (i : ℕ) × Reads (λ b. record { lower = PowerGone b; component = i }) (reading.path path.now) (on D.Device.model self.old) result (on D.Device.model self.new) }
     {
         self.core.path(path)
     }
 
     // Kind, leaf count and parent.
     pub fn status(&mut self, handle: &Handle) -> Result<Status, Refusal>
-        ensures reads { Valid D.Device.model self.old → Reads PowerGone (reading.status handle.now) (surveyed_on D.Device.model self.old) (mapped_answer status_view (λ e. e) result) (surveyed_on D.Device.model self.new) }
-        ensures valid { Valid D.Device.model self.old → Valid D.Device.model self.new }
+        ensures reads { Reads PowerGone (reading.status handle.now) (on D.Device.model self.old) (mapped_answer status_view (λ e. e) result) (on D.Device.model self.new) }
     {
         self.core.status(handle)
     }
@@ -131,31 +117,28 @@ impl<D: Device> Surveyed<D> {
         leaf: LeafNo,
         buffer: &mut [u8],
     ) -> Result<usize, Refusal>
-        ensures reads { Valid D.Device.model self.old → (a : Answer (List ℕ)) × Reads PowerGone (reading.read handle.now leaf.0 (length buffer.old)) (surveyed_on D.Device.model self.old) a (surveyed_on D.Device.model self.new) × Fills a result buffer.old buffer.new }
-        ensures valid { Valid D.Device.model self.old → Valid D.Device.model self.new }
+        ensures reads { (a : Answer (List ℕ)) × Reads PowerGone (reading.read handle.now leaf.0 (length buffer.old)) (on D.Device.model self.old) a (on D.Device.model self.new) × Fills a result buffer.old buffer.new }
     {
         self.core.read(handle, leaf, buffer)
     }
 
     // The sound entries of a folder, into the front of the lines; answers how many there are.
     pub fn list(&mut self, folder: &Handle, lines: &mut [EntryLine]) -> Result<usize, Refusal>
-        ensures reads { Valid D.Device.model self.old → (a : Answer (List reading.EntryLine)) × Reads PowerGone (reading.list folder.now) (surveyed_on D.Device.model self.old) a (surveyed_on D.Device.model self.new) × LinesOf entry_row zero_entry a result lines.old lines.new }
-        ensures valid { Valid D.Device.model self.old → Valid D.Device.model self.new }
+        ensures reads { (a : Answer (List reading.EntryLine)) × Reads PowerGone (reading.list folder.now) (on D.Device.model self.old) a (on D.Device.model self.new) × LinesOf entry_row zero_entry a result lines.old lines.new }
     {
         self.core.list(folder, lines)
     }
 
     // The leaves of reached slots that are not good, into the front of the lines; answers how many there are.
     pub fn damage(&mut self, lines: &mut [DamageLine]) -> Result<usize, Refusal>
-        ensures reads { Valid D.Device.model self.old → (a : Answer (List reading.DamageLine)) × Reads PowerGone reading.damage (surveyed_on D.Device.model self.old) a (surveyed_on D.Device.model self.new) × LinesOf damage_row zero_damage a result lines.old lines.new }
-        ensures valid { Valid D.Device.model self.old → Valid D.Device.model self.new }
+        ensures reads { (a : Answer (List reading.DamageLine)) × Reads PowerGone reading.damage (on D.Device.model self.old) a (on D.Device.model self.new) × LinesOf damage_row zero_damage a result lines.old lines.new }
     {
         self.core.damage(lines)
     }
 
     // How many bodies and slots are free: no device call.
     pub fn space(&self) -> Result<Space, Refusal>
-        ensures reads { Valid D.Device.model self.now → Reads PowerGone reading.space (surveyed_on D.Device.model self.now) (mapped_answer space_view (λ e. e) result) (surveyed_on D.Device.model self.now) }
+        ensures reads { Reads PowerGone reading.space (on D.Device.model self.now) (mapped_answer space_view (λ e. e) result) (on D.Device.model self.now) }
     {
         let g = self.core.ready?;
         Ok(Space {
@@ -164,28 +147,13 @@ impl<D: Device> Surveyed<D> {
         })
     }
 
-    // Carries a plan out: all of its blocks are written, or power gone is met.
-    fn commit(&mut self, plan: &Plan) -> Result<(), Refusal>
-        ensures commits { plan.now.len ≤ 3 → first_outside (D.Device.model self.old.core.device).count (puts_in plan.now) ≡ None → Commits (puts_in plan.now) plan.now.memory self.old.core.ready self.old.memory (D.Device.model self.old.core.device) result self.new.core.ready self.new.memory (D.Device.model self.new.core.device) }
-        ensures marks { self.new.marks ≡ self.old.marks }
-    {
-        match write_plan(&mut self.core.device, plan) {
-            Ok(()) => {
-                self.memory = plan.memory;
-                Ok(())
-            }
-            Err(e) => Err(self.core.refuse(e)),
-        }
-    }
-
     // Makes an empty file or folder in a folder, under a name that is not taken; answers its handle.
     pub fn create(&mut self, kind: Kind, folder: &Handle, name: &[u8]) -> Result<Handle, Refusal>
-        ensures changes { Valid D.Device.model self.old → Changes (changing.create kind folder.now name.now) (surveyed_on D.Device.model self.old) result (surveyed_on D.Device.model self.new) }
-        ensures valid { Valid D.Device.model self.old → Valid D.Device.model self.new }
+        ensures changes { Changes (changing.create kind folder.now name.now) (on D.Device.model self.old) result (on D.Device.model self.new) }
     {
         check_name(name)?;
         let g = self.core.ready?;
-        match plan_create(
+        let planned = plan_create(
             &mut self.core.device,
             &g,
             &self.memory,
@@ -193,31 +161,27 @@ impl<D: Device> Surveyed<D> {
             kind,
             folder,
             name,
-        ) {
-            Ok(w) => {
-                self.commit(&w.plan)?;
-                let mark = SlotMark {
-                    identity: w.child.identity,
-                    parent: *folder,
-                };
-                self.marks.set_slot(w.child.slot, Some(mark));
-                mark_leaf(&mut self.marks, w.gained, folder);
-                Ok(w.child)
-            }
-            Err(e) => Err(self.core.refuse(e)),
-        }
+        );
+        let w = self.core.keep(planned)?;
+        self.core.commit(&w.plan, &mut self.memory)?;
+        let mark = SlotMark {
+            identity: w.child.identity,
+            parent: *folder,
+        };
+        self.marks.set_slot(w.child.slot, Some(mark));
+        mark_leaf(&mut self.marks, w.gained, folder);
+        Ok(w.child)
     }
 
     // A leaf of a file gets these bytes, at most 496: a good leaf below the count, or a new one at the count.
     pub fn write(&mut self, file: &Handle, leaf: LeafNo, bytes: &[u8]) -> Result<(), Refusal>
-        ensures changes { Valid D.Device.model self.old → Changes (changing.write file.now leaf.0 bytes.now) (surveyed_on D.Device.model self.old) result (surveyed_on D.Device.model self.new) }
-        ensures valid { Valid D.Device.model self.old → Valid D.Device.model self.new }
+        ensures changes { Changes (changing.write file.now leaf.0 bytes.now) (on D.Device.model self.old) result (on D.Device.model self.new) }
     {
         if bytes.len() > 496 {
             return Err(Refusal::BadLength(bytes.len()));
         }
         let g = self.core.ready?;
-        match plan_write(
+        let planned = plan_write(
             &mut self.core.device,
             &g,
             &self.memory,
@@ -225,75 +189,61 @@ impl<D: Device> Surveyed<D> {
             file,
             leaf,
             bytes,
-        ) {
-            Ok(w) => {
-                self.commit(&w.plan)?;
-                let back = Back { owner: *file, leaf };
-                mark_gained(&mut self.marks, w.body, back);
-                Ok(())
-            }
-            Err(e) => Err(self.core.refuse(e)),
-        }
+        );
+        let w = self.core.keep(planned)?;
+        self.core.commit(&w.plan, &mut self.memory)?;
+        let back = Back { owner: *file, leaf };
+        mark_gained(&mut self.marks, w.body, back);
+        Ok(())
     }
 
     // The file keeps its first n leaves.
     pub fn shorten(&mut self, file: &Handle, n: LeafNo) -> Result<(), Refusal>
-        ensures changes { Valid D.Device.model self.old → Changes (changing.shorten file.now n.0) (surveyed_on D.Device.model self.old) result (surveyed_on D.Device.model self.new) }
-        ensures valid { Valid D.Device.model self.old → Valid D.Device.model self.new }
+        ensures changes { Changes (changing.shorten file.now n.0) (on D.Device.model self.old) result (on D.Device.model self.new) }
     {
         let g = self.core.ready?;
-        match plan_shorten(
+        let planned = plan_shorten(
             &mut self.core.device,
             &g,
             &self.memory,
             &self.marks,
             file,
             n,
-        ) {
-            Ok(w) => {
-                self.commit(&w.plan)?;
-                drop_leaves(&mut self.marks, file, &w.slot, n.0);
-                Ok(())
-            }
-            Err(e) => Err(self.core.refuse(e)),
-        }
+        );
+        let w = self.core.keep(planned)?;
+        self.core.commit(&w.plan, &mut self.memory)?;
+        drop_leaves(&mut self.marks, file, &w.slot, n.0);
+        Ok(())
     }
 
     // Removes what the name leads to: a file, or a folder that has no sound entry.
     pub fn remove(&mut self, folder: &Handle, name: &[u8]) -> Result<(), Refusal>
-        ensures changes { Valid D.Device.model self.old → Changes (changing.remove folder.now name.now) (surveyed_on D.Device.model self.old) result (surveyed_on D.Device.model self.new) }
-        ensures valid { Valid D.Device.model self.old → Valid D.Device.model self.new }
+        ensures changes { Changes (changing.remove folder.now name.now) (on D.Device.model self.old) result (on D.Device.model self.new) }
     {
         check_name(name)?;
         let g = self.core.ready?;
-        match plan_remove(
+        let planned = plan_remove(
             &mut self.core.device,
             &g,
             &self.memory,
             &self.marks,
             folder,
             name,
-        ) {
-            Ok(w) => {
-                self.commit(&w.plan)?;
-                drop_leaves(&mut self.marks, &w.child, &w.slot, 0);
-                self.marks.set_slot(w.child.slot, None);
-                Ok(())
-            }
-            Err(e) => Err(self.core.refuse(e)),
-        }
+        );
+        let w = self.core.keep(planned)?;
+        self.core.commit(&w.plan, &mut self.memory)?;
+        drop_leaves(&mut self.marks, &w.child, &w.slot, 0);
+        self.marks.set_slot(w.child.slot, None);
+        Ok(())
     }
 
     // Asks the device that all that is shown lands (a flush), and passes its answer on.
     pub fn sync(&mut self) -> Result<(), Refusal>
-        ensures syncs { Valid D.Device.model self.old → Syncs (surveyed_on D.Device.model self.old) result (surveyed_on D.Device.model self.new) }
-        ensures valid { Valid D.Device.model self.old → Valid D.Device.model self.new }
+        ensures syncs { Syncs (on D.Device.model self.old) result (on D.Device.model self.new) }
     {
         let _g = self.core.ready?;
-        match self.core.device.sync() {
-            Ok(answer) => sync_answer(answer),
-            Err(e) => Err(self.core.refuse(e.into())),
-        }
+        let answer = self.core.device.sync().map_err(Refusal::from);
+        sync_answer(self.core.keep(answer)?)
     }
 
     // The device, to be looked at from outside.
@@ -304,19 +254,13 @@ impl<D: Device> Surveyed<D> {
     }
 }
 
-// The plug is pulled: the card is over, and the device comes back as the cut left it, to be opened anew.
 impl<D: PowerCut> Surveyed<D> {
+    ghost use Rattle.device.specs.Model.{Cut};
+
+    // The plug is pulled: the card is over, and the device comes back as the cut left it, to be opened anew.
     pub fn cut(self, landing: &[u16]) -> D
         ensures { Cut (D.Device.model self.core.device) (D.Device.model result) }
     {
-        let Surveyed {
-            core,
-            memory: _,
-            marks: _,
-        } = self;
-        let Core { device, ready: _ } = core;
-        let mut device = device;
-        device.cut(landing);
-        device
+        self.core.cut(landing)
     }
 }
