@@ -1,13 +1,12 @@
 -- A reading call of a card, by what the walk answers.
-use Rattle.std.proofs.Common.{◌≡◌, ℕ, cond, eqb, Ok, Err, Result, sym, refl, ap, ◌∙◌, subst, inl, inr, arith}
+use Rattle.std.proofs.Common.{◌≡◌, ℕ, cond, eqb, Ok, Err, sym, refl, ap, ◌∙◌, subst, inl, inr, arith}
 use Rattle.std.proofs.lemmas.Bool.{cond-false, ne_eqb}
 use Rattle.base.specs.Refusals.{number_of}
-use Rattle.base.specs.declared.number.BlockNo.{BlockNo}
 use Rattle.base.specs.declared.owner.Handle.{Handle}
 use Rattle.base.specs.declared.refusal.Refusal.{Refusal}
 use Rattle.base.specs.declared.refusal.Refusal.TheVariants.{PowerGone}
 use Rattle.device.specs.Answers.{refusal_of}
-use Rattle.device.specs.Model.{Model, Lost}
+use Rattle.device.specs.Model.{Model}
 use Rattle.device.specs.declared.fault.Fault.{Fault}
 use Rattle.device.specs.declared.fault.Fault.TheVariants.{PowerGone as Gone, NoSuchBlock}
 use Rattle.layout.specs.Format.{Geometry, Name, Slot}
@@ -19,10 +18,6 @@ use Rattle.rule.specs.Card.{Ready, opening, surveyed}
 use Rattle.rule.specs.Card.{opened as rule_opened}
 use Rattle.rule.specs.Check.{Answer}
 use Rattle.rule.specs.Reading.{named, step, find, fits, status}
-use Rattle.history.specs.Events.{Reads, opened}
-use Rattle.history.specs.Events.{surveyed as on_survey}
-use Rattle.marks.specs.declared.mark.Marks.{Marks}
-use Rattle.change.specs.declared.plan.Memory.{Memory}
 use Rattle.walk.specs.Copies.{copied}
 use Rattle.walk.specs.Still.{Failed, Gives}
 use Rattle.walk.specs.declared.slot.SlotCopy.{SlotCopy}
@@ -31,10 +26,9 @@ use Rattle.walk.proofs.Stepping.{bind_ok, bind_err}
 use Rattle.card_lists.specs.Ready.{Kept, ready_view, Fitting}
 use Rattle.card.specs.Calls.{CoreReads, kept_by}
 use Rattle.card.specs.Progress.{so_far}
-use Rattle.card.specs.Valid.{Sees, Seen, Known, opened_state, surveyed_state, memory_view}
+use Rattle.card.specs.Valid.{Sees, Seen}
 use Rattle.card.specs.declared.progress.Progress.{Progress}
 use Rattle.card.proofs.Progresses.{learned_moved}
-use Rattle.card.proofs.Plans.{still_known, gone_known}
 use Rattle.card.proofs.Quiet.{Quiet}
 
 -- what the walk's answer a is made to
@@ -96,29 +90,6 @@ module _ (h : Handle) (shown : Shown) where
   pub status_told : (x : Ready) (g : Geometry) (s : SlotCopy) → x ≡ Ok g → fits g (seen g shown) h ≡ Ok (copied s) → status h x shown ≡ Ok (record { kind = s.kind; count = s.count; parent = s.parent })
   status_told x g s r q = status_of x g (copied s) r q ∙ ap (λ (n : ℕ). Ok (record { kind = s.kind; count = n; parent = s.parent })) (length_numbers s.count s.numbers)
 
--- ---- on a card only opened
-
-module _ {A E : Type 0} (met : BlockNo → E) (rule : Ready → Shown → Result A E) (c : Kept) (m : Model) (r : Result A E) (d : Kept) (n : Model) where
-  pub still_fitting : CoreReads met rule c m r d n → Fitting c m → Fitting d n
-  still_fitting (inl h) fit = subst (λ (z : Kept). Fitting z n) (sym h.2) (fits_on c h.0.kept.count fit)
-    where
-      fits_on : (c : Kept) → n.count ≡ m.count → Fitting c m → Fitting c n
-      fits_on (Ok g) e f = omega (arith, e, f)
-      fits_on (Err x) e f = tt
-  still_fitting (inr h) fit = subst (λ (z : Kept). Fitting z n) (sym h.5) tt
-
-  pub opened_reads : (p : Progress) → CoreReads met rule c m r d n → Reads met rule (opened_state c p m) r (opened_state d p n)
-  opened_reads p (inl h) = record {
-    ready = ready_view c;
-    has = refl;
-    turn = inl (h.1, record { kept = h.0.kept; power = h.0.power; card = ap (λ (z : Kept). opened (so_far (ready_view z) p)) h.2 });
-  }
-  opened_reads p (inr h) = record {
-    ready = ready_view c;
-    has = refl;
-    turn = inr (h.0, (sizes h.1, ap ready_view h.2), h.3, record { lost = h.4; card = ap (λ (z : Kept). opened (so_far (ready_view z) p)) h.5 });
-  }
-
 -- ---- what an opened card has learned stays true
 
 pub still_sees : (g : CardGeometry) (p : Progress) (m k : Model) → k.count ≡ m.count → k.shown ≡ m.shown → Sees g p m → Sees g p k
@@ -131,31 +102,3 @@ still_sees g p m k count shown w = record {
 
 pub gone_seen : (d : Kept) (e : Refusal) (p : Progress) (m : Model) → d ≡ Err e → Seen d p m
 gone_seen d e p m q = subst (λ (z : Kept). Seen z p m) (sym q) tt
-
-module _ {A E : Type 0} (met : BlockNo → E) (rule : Ready → Shown → Result A E) (c : Kept) (m : Model) (r : Result A E) (d : Kept) (n : Model) where
-  pub still_seen : CoreReads met rule c m r d n → (p : Progress) → Seen c p m → Seen d p n
-  still_seen (inl h) p see = subst (λ (z : Kept). Seen z p n) (sym h.2) (go c see)
-    where
-      go : (c : Kept) → Seen c p m → Seen c p n
-      go (Ok g) w = still_sees g p m n h.0.kept.count h.0.kept.shown w
-      go (Err x) w = tt
-  still_seen (inr h) p see = gone_seen d (PowerGone h.0) p n h.5
-
--- ---- the same on a surveyed card
-
-module _ {A E : Type 0} (met : BlockNo → E) (rule : Ready → Shown → Result A E) (c : Kept) (m : Model) (r : Result A E) (d : Kept) (n : Model) (mem : Memory) where
-  pub surveyed_reads : CoreReads met rule c m r d n → Reads met rule (surveyed_state c mem m) r (surveyed_state d mem n)
-  surveyed_reads (inl h) = record {
-    ready = ready_view c;
-    has = refl;
-    turn = inl (h.1, record { kept = h.0.kept; power = h.0.power; card = ap (λ (k : Kept). on_survey (memory_view k mem)) h.2 });
-  }
-  surveyed_reads (inr h) = record {
-    ready = ready_view c;
-    has = refl;
-    turn = inr (h.0, (sizes h.1, ap ready_view h.2), h.3, record { lost = h.4; card = ap (λ (k : Kept). on_survey (memory_view k mem)) h.5 });
-  }
-
-  pub reads_known : (ms : Marks) → CoreReads met rule c m r d n → Known c mem ms m → Known d mem ms n
-  reads_known ms (inl h) w = subst (λ (z : Kept). Known z mem ms n) (sym h.2) (still_known c mem ms m n h.0.kept.count h.0.kept.shown w)
-  reads_known ms (inr h) w = gone_known d (PowerGone h.0) mem ms n h.5

@@ -1,8 +1,7 @@
 -- Reading a leaf, one check after another.
-use Rattle.std.proofs.Common.{◌≡◌, ℕ, ◌-◌, ◌<◌, ◌≤◌, min, true, ltb, leb, List, ◌++◌, length, take, drop, Some, None, Ok, Err, Option, Result, sym, refl, ap, ◌∙◌, subst, inl, inr, arith}
+use Rattle.std.proofs.Common.{◌≡◌, ℕ, ◌<◌, ◌≤◌, true, ltb, leb, List, Some, None, Ok, Err, Option, Result, sym, refl, ap, ◌∙◌, subst, inl, inr, arith}
 use Rattle.std.specs.Option.{ok_or}
-use Rattle.std.proofs.lemmas.List.{length-take, take_all}
-use Rattle.std.proofs.lemmas.Bool.{and_parts, lt-ltb, le-ltb, le-leb, lt-leb, cases_lt}
+use Rattle.std.proofs.lemmas.Bool.{and_parts, lt-ltb, le-ltb, le-leb, lt-leb}
 use Rattle.base.specs.declared.number.BlockNo.{BlockNo}
 use Rattle.base.specs.declared.owner.Kind.{Kind}
 use Rattle.base.specs.declared.owner.Kind.TheVariants.{File, Folder}
@@ -102,19 +101,6 @@ module _ (h : Handle) (k room : ℕ) (shown : Shown) where
 pub leaf_quiet : (g : Geometry) (v : View) (h : Handle) (k : ℕ) → Quiet (leaf_bytes g v h k)
 leaf_quiet g v h k =
     bind_quiet _ _ (reading_quiet g v File h) (λ r. bind_quiet _ _ (check_quiet _ (NoSuchLeaf (record { 0 = k })) (λ n. omega arith)) (λ u. bind_quiet _ _ (check_quiet _ (LeafNotGood (block (number r k))) (λ n. omega arith)) (λ w. ok_quiet _)))
-
--- the front of a buffer, as the code fills it
-pub filled : (l : LeafCopy) (z : List ℕ) (used : ℕ) (x : List ℕ) → length l.bytes ≡ 496 → used ≡ min l.used 496 → x ≡ take (used - 0) l.bytes → (used ≡ length (front l)) × (x ++ drop (used - 0) z ≡ front l ++ drop (length (front l)) z)
-filled l z used x len u e =
-    let n : used ≡ length (front l) = u ∙ ap (min l.used) (sym len) ∙ sym (length-take l.used l.bytes) in
-    let same : x ≡ front l = e ∙ go in
-    (n, ap (λ (y : List ℕ). y ++ drop (used - 0) z) same ∙ ap (λ (i : ℕ). front l ++ drop i z) (omega (arith, n)))
-  where
-    go : take (used - 0) l.bytes ≡ front l
-    go = elim (cases_lt l.used 496) [
-      | inl low ↦ ap (λ (i : ℕ). take i l.bytes) (omega (arith, u, low))
-      | inr high ↦ ap (λ (i : ℕ). take i l.bytes) (omega (arith, u, high, len)) ∙ take_all (length l.bytes) l.bytes (omega arith) ∙ sym (take_all l.used l.bytes (omega (arith, len, high)))
-    ]
 
 pub fills_exit : (r : Result ℕ Refusal) (z : List ℕ) (d : Refusal) → r ≡ Err d → Fills (Err d) r z z
 fills_exit r z d p = subst (λ (x : Result ℕ Refusal). Fills (Err d) x z z) (sym p) (refl, refl)

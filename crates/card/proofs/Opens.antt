@@ -1,5 +1,5 @@
 -- Opening, one check after another.
-use Rattle.std.proofs.Common.{◌≡◌, ℕ, ◌+◌, ◌<◌, ◌≤◌, Bool, true, false, ◌&&◌, ltb, leb, Some, None, Ok, Err, Option, sym, refl, ap, ◌∙◌, subst, inl, inr, arith}
+use Rattle.std.proofs.Common.{◌≡◌, ℕ, ◌+◌, ◌<◌, ◌≤◌, Bool, true, false, ◌&&◌, ltb, leb, Some, None, Ok, Err, Option, sym, ap, ◌∙◌, subst, inl, inr, arith}
 use Rattle.std.specs.Prelude.{MatchOption}
 use Rattle.std.specs.Option.{option_map, ok_or}
 use Rattle.std.proofs.lemmas.Bool.{and_parts, cond-true, leb-true, le-leb, lt-leb, lt-ltb, le-ltb}
@@ -8,20 +8,16 @@ use Rattle.base.specs.declared.refusal.Refusal.TheVariants.{BadCard, SmallDevice
 use Rattle.device.specs.Model.{Model, Lost, Block}
 use Rattle.layout.specs.Format.{Geometry, Slot, cover, ill_formed, cover_of, in_limits}
 use Rattle.rule.specs.Agree.{Shown, View, seen, slot_at, slot_in, some_is}
-use Rattle.rule.specs.Card.{Ready, Opened, block, is_root, geometry_in, opening, surveyed}
+use Rattle.rule.specs.Card.{Ready, block, is_root, geometry_in, opening}
 use Rattle.walk.specs.Copies.{copied}
-use Rattle.walk.specs.Still.{Still, shows}
+use Rattle.walk.specs.Still.{Still}
 use Rattle.walk.specs.declared.slot.SlotCopy.{SlotCopy}
 use Rattle.walk.proofs.Stills.{still_then}
 use Rattle.walk.proofs.Stepping.{bind_ok, bind_err, check_ok, check_err, demand_ok, demand_err}
-use Rattle.history.specs.Events.{Phase, Opens, closed, opened}
-use Rattle.card_lists.specs.Ready.{Kept, ready_view, Fitting}
+use Rattle.card_lists.specs.Ready.{Kept}
 use Rattle.layout.specs.Sizes.{sizes}
 use Rattle.layout.specs.declared.geometry.Geometry.{Geometry as CardGeometry}
 use Rattle.card.specs.Opening.{rooted, sized, Opening}
-use Rattle.card.specs.Progress.{Learned, so_far}
-use Rattle.card.specs.Valid.{Seen, opened_state}
-use Rattle.card.specs.declared.progress.Progress.{Progress}
 
 module _ (n : ℕ) (shown : Shown) (g : Geometry) where
   pub sized_small : n < g.blocks → sized n shown g ≡ Err (SmallDevice g.blocks)
@@ -97,38 +93,3 @@ opening_refused r x m n e is s q = subst (λ (z : Kept). Opening z x m n) (sym i
 pub sized_then : (m k : Model) (g : Geometry) (z : Block) → Still m k → 0 < m.count → z ≡ m.shown 0 → cover_of z ≡ cover g → sized k.count k.shown g ≡ opening m.count m.shown
 sized_then m k g z s l e q =
     ap (λ (n : ℕ). sized n k.shown g) s.kept.count ∙ ap (λ (f : Shown). sized m.count f g) s.kept.shown ∙ sym (opening_cover m.count m.shown g l z e q)
-
--- ---- a card just opened
-
-module _ (r : Kept) (m n : Model) (p : Progress) (next : p.next ≡ 1) (highest : p.highest.0 ≡ 0) where
-  begins : (x : Ready) → so_far x p ≡ record { ready = x; next = 1; highest = 0 }
-  begins x = ap (λ (i : ℕ). record { ready = x; next = i; highest = p.highest.0 }) next ∙ ap (λ (i : ℕ). record { ready = x; next = 1; highest = i }) highest
-
-  pub open_seen : Opening r (opening m.count m.shown) m n → ((g : CardGeometry) (m : Model) → Learned g m p) → Seen r p n
-  open_seen = go r
-    where
-      go : (r : Kept) → Opening r (opening m.count m.shown) m n → ((g : CardGeometry) (m : Model) → Learned g m p) → Seen r p n
-      go (Err e) h learned = tt
-      go (Ok g) h learned =
-          let k = h.0.kept in
-          let opens : opening n.count n.shown ≡ Ok (sizes g) = ap (λ (i : ℕ). opening i n.shown) k.count ∙ ap (opening m.count) k.shown ∙ h.1 in
-          record {
-            fits = omega (arith, k.count, h.2);
-            opens = opens;
-            learned = learned g n;
-            agrees = ap (λ (o : Opened). surveyed o n.shown) (begins (Ok (sizes g)) ∙ ap (λ (z : Ready). record { ready = z; next = 1; highest = 0 }) (sym opens));
-          }
-
-  pub open_opens : Opening r (opening m.count m.shown) m n → Opens (record { device = m; card = closed }) (opened_state r p n)
-  open_opens = go r
-    where
-      card : (r : Kept) → opened (so_far (ready_view r) p) ≡ opened (record { ready = ready_view r; next = 1; highest = 0 })
-      card r = ap opened (begins (ready_view r))
-
-      at : Ready → Phase
-      at z = opened (record { ready = z; next = 1; highest = 0 })
-
-      go : (r : Kept) → Opening r (opening m.count m.shown) m n → Opens (record { device = m; card = closed }) (opened_state r p n)
-      go (Ok g) h = record { card = refl; turn = inl (record { kept = h.0.kept; power = h.0.power; card = card (Ok g) ∙ ap at (sym h.1) }) }
-      go (Err e) (inl h) = record { card = refl; turn = inl (record { kept = h.0.kept; power = h.0.power; card = card (Err e) ∙ ap at (sym h.1) }) }
-      go (Err e) (inr h) = record { card = refl; turn = inr (h.0, record { lost = h.2; card = card (Err e) ∙ ap (λ (z : Refusal). at (Err z)) h.1 }) }

@@ -6,7 +6,7 @@ use Rattle.base.specs.declared.number.BlockNo.{BlockNo}
 use Rattle.base.specs.declared.refusal.Refusal.{Refusal}
 use Rattle.base.specs.declared.refusal.Refusal.TheVariants.{PowerGone}
 use Rattle.device.specs.Answers.{refusal_of}
-use Rattle.device.specs.Effect.{Outcome, accepted, broken, Power, Shows, puts, Altered, first_outside, WriteAllFault}
+use Rattle.device.specs.Effect.{Outcome, accepted, broken, Power, Shows, puts, Altered, first_outside}
 use Rattle.device.specs.Model.{Model, Block, Lost}
 use Rattle.device.specs.declared.fault.Fault.{Fault}
 use Rattle.device.specs.declared.fault.Fault.TheVariants.{PowerGone as Met, NoSuchBlock}
@@ -27,7 +27,7 @@ use Rattle.moves.proofs.Lands.{rooted}
 use Rattle.change.specs.Plans.{card_view, plan_view, puts_in, Grounded}
 use Rattle.change.specs.declared.plan.Memory.{Memory}
 use Rattle.change.specs.declared.plan.Plan.{Plan as CodePlan}
-use Rattle.card.specs.Commits.{Puts, Commits}
+use Rattle.card.specs.Commits.{Commits}
 use Rattle.card_lists.specs.Ready.{Kept, Fitting}
 use Rattle.card.specs.Calls.{kept_by}
 use Rattle.card.specs.Valid.{Knows, Known, memory_view, surveyed_state}
@@ -166,20 +166,6 @@ done_known g c d after ms m k n p is same fit s a card tied agree room = subst (
   where
     b : Altered accepted p.puts m n
     b = still_altered accepted p.puts m k n s a
-
--- ---- the blocks of a plan
-
--- power gone is the only refusal of blocks that the device has
-pub puts_refused : (ws : List Put) (m n : Model) (f : Fault) (e : Refusal) (r : Answer (Unit {0})) → first_outside m.count ws ≡ None → r ≡ Err e → e ≡ refusal_of f → WriteAllFault ws m n f → Puts ws m r n
-puts_refused ws m n (Met b) e r inside p q h = subst (λ (z : Answer (Unit {0})). Puts ws m z n) (sym (p ∙ ap Err q)) (b, refl, h.2)
-puts_refused ws m n (NoSuchBlock b) e r inside p q h =
-    let some = h.0 in
-    let z : ◌≡◌ {A = ℕ} 0 1 = cc in absurd (omega arith)
-
--- and the card keeps it
-pub commits_refused : (ws : List Put) (after : Memory) (c d : Kept) (mem : Memory) (m k n : Model) (e f : Refusal) → f ≡ e → n ≡ k → d ≡ cond (eqb (number_of e) 1) (Err e) c → Puts ws m (Err e) k → Commits ws after c mem m (Err f) d mem n
-commits_refused ws after c d mem m k n e f p s t h =
-    (h.0, p ∙ h.1, subst (λ (z : Model). Altered broken ws m z) (sym s) h.2, t ∙ ap (λ (z : Refusal). cond (eqb (number_of z) 1) (Err z) c) h.1, refl)
 
 -- ---- what a plan is made from
 

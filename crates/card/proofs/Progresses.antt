@@ -1,30 +1,24 @@
 -- One block examined more.
-use Rattle.std.proofs.Common.{◌≡◌, ℕ, suc, ◌+◌, ◌-◌, ◌<◌, max, ltb, length, Ok, Err, Result, sym, refl, ap, ◌∙◌, subst, inl, inr, arith}
+use Rattle.std.proofs.Common.{◌≡◌, ℕ, suc, ◌+◌, ◌-◌, ◌<◌, max, ltb, length, Ok, sym, refl, ap, ◌∙◌, subst, inl, inr, arith}
 use Rattle.std.proofs.Math.Logic.{∥∥₁_map}
 use Rattle.std.proofs.lemmas.Grind.{merely}
 use Rattle.std.proofs.lemmas.Bool.{cases_lt, lt-ltb, cond-true}
-use Rattle.base.specs.declared.number.BlockNo.{BlockNo}
 use Rattle.base.specs.declared.number.Identity.{Identity}
-use Rattle.base.specs.declared.refusal.Refusal.{Refusal}
-use Rattle.device.specs.Answers.{ReadFault, refusal_of}
 use Rattle.moves.proofs.Lands.{limits_of}
 use Rattle.device.specs.Model.{Model, Block}
-use Rattle.device.specs.declared.fault.Fault.{Fault}
 use Rattle.layout.specs.Format.{Geometry, parse}
 use Rattle.layout.specs.Identities.{told}
 use Rattle.layout.specs.Sizes.{sizes}
 use Rattle.layout.specs.declared.geometry.Geometry.{Geometry as CardGeometry}
 use Rattle.rule.specs.Agree.{Shown, View, seen}
 use Rattle.rule.specs.Card.{Opened, Surveying, examined, survey_step, surveyed}
-use Rattle.rule.specs.Check.{Answer}
 use Rattle.rule.proofs.Answered.{steps_agree}
 use Rattle.survey.specs.Survey.{Apart, Sofar}
 use Rattle.survey.proofs.Begins.{apart_seen}
 use Rattle.survey.specs.declared.survey.Survey.{Survey}
-use Rattle.walk.specs.Still.{Still, Refused, shows}
-use Rattle.walk.proofs.Stills.{still_then, failed_read, failed_then}
+use Rattle.walk.specs.Still.{shows}
 use Rattle.walk.proofs.Stepping.{bind_ok}
-use Rattle.card.specs.Progress.{Learned, Examines, so_far}
+use Rattle.card.specs.Progress.{Learned, so_far}
 use Rattle.card.specs.declared.progress.Progress.{Progress}
 
 module _ (g : CardGeometry) (m : Model) (p : Progress) (w : Learned g m p) (x : Block) (bytes : x ≡ m.shown p.next) where
@@ -81,14 +75,3 @@ learned_none t s g m = record {
   sofar = merely (s (sizes g) (shows g m) (apart_seen (sizes g) m.shown));
   whole = λ b l q. absurd (omega arith);
 }
-
--- a block was asked for and refused
-pub examines_exit : (g : CardGeometry) (b : BlockNo) (r : Answer (Unit {0})) (P : Type 0) (m n : Model) (f : Fault) (e : Refusal) → b.0 < g.blocks → r ≡ Err e → e ≡ refusal_of f → ReadFault b m n f → Examines g r P m n
-examines_exit g b r P m n f e low p is h = subst (λ (z : Answer (Unit {0})). Examines g z P m n) (sym p) (inr (f, is, failed_read g b m n f low h))
-
--- blocks were read before
-pub examines_then : (g : CardGeometry) (r : Answer (Unit {0})) (m k n : Model) (e d : Refusal) → Still m k → r ≡ Err d → d ≡ e → Refused {B = Unit {0}} g (Ok tt) k n e → (Q : Type 0) → Examines g r Q m n
-examines_then g r m k n e d s p is h Q = subst (λ (z : Answer (Unit {0})). Examines g z Q m n) (sym (p ∙ ap Err is)) (elim h [
-  | inl q ↦ inl (still_then m k n s q.0, q.1)
-  | inr q ↦ inr (q.0, q.1, failed_then g m k n q.0 s q.2)
-])

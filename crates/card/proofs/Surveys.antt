@@ -36,10 +36,9 @@ use Rattle.card.specs.Calls.{kept_by}
 use Rattle.card.specs.Once.{Knows-prop}
 use Rattle.card.specs.Progress.{Learned, Examines, so_far}
 use Rattle.card.specs.declared.progress.Progress.{Progress}
-use Rattle.card.specs.Valid.{Sees, Seen, Knows, Known, opened_state, surveyed_state, memory_view}
+use Rattle.card.specs.Valid.{Sees, Seen, Knows, opened_state, surveyed_state, memory_view}
 use Rattle.card_lists.specs.Ready.{Kept, ready_view}
 use Rattle.card.proofs.Cores.{still_sees, gone_seen}
-use Rattle.card.proofs.Plans.{gone_known}
 use Rattle.card.proofs.Progresses.{turn_agrees, learned_moved}
 
 -- ---- a step
@@ -123,7 +122,7 @@ fault_seen g c d q m k n e (NoSuchBlock b) fit ew t h = absurd (omega (arith, fi
 
 -- the step as the code makes it: y is what examining the block answered, on a device that is z then; `keep` hands it on as o, with the card b and the device x
 module _ {D : Type 0} (model : D → Model) (g : CardGeometry) (c : Kept) (is : c ≡ Ok g) (p q : Progress) (m : Model) {z x : D} {y o : Answer (Unit {0})} {b : Kept} (see : Seen c p m) (l : p.next < g.blocks)
-  (examines : Learned g m p → Examines g y (Learned g m q × (so_far (Ok (sizes g)) q ≡ examined (sizes g) m.shown (so_far (Ok (sizes g)) p))) m (model z)) (keeps : (o ≡ y) × (x ≡ z) × (b ≡ kept_by y c)) where
+    (examines : Learned g m p → Examines g y (Learned g m q × (so_far (Ok (sizes g)) q ≡ examined (sizes g) m.shown (so_far (Ok (sizes g)) p))) m (model z)) (keeps : (o ≡ y) × (x ≡ z) × (b ≡ kept_by y c)) where
   sees : Sees g p m
   sees = subst (λ (k : Kept). Seen k p m) is see
 

@@ -1,9 +1,12 @@
 -- A surveyed card, on its device.
-use Rattle.device.specs.Model.{Model}
-use Rattle.history.specs.Events.{State}
-use Rattle.card.specs.Valid.{surveyed_state}
+use Rattle.history.specs.Events.{State, surveyed}
+use Rattle.rule.specs.Card as rule_of_card
+use Rattle.card.specs.Valid.{memory_view}
 use Rattle.card.specs.declared.surveyed.Surveyed.{Surveyed}
 
--- where it stands in its history; the device means what `model` says
-abbrev pub on : {D : Type 0} {x : _} → (D → Model) → Surveyed D x → State
-on model c = surveyed_state c.core.ready c.memory (model c.core.device)
+abbrev pub surveyed_view : {D : Type 0} {d : _} → Surveyed D d → rule_of_card.Card
+surveyed_view c = memory_view c.core.ready c.memory
+
+-- where it stands in its history
+abbrev pub on : {D : Type 0} {d : _} → Surveyed D d → State
+on {D} {d} c = record { device = d.model c.core.device; card = surveyed (surveyed_view c) }

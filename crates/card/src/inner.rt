@@ -54,10 +54,9 @@ impl<D: Device> Core<D> {
     ghost use Rattle.card.specs.Views.{status_view};
 
     // Opens the card on a device.
-    pub fn open(device: D) -> Core<D>
+    pub fn open(mut device: D) -> Core<D>
         ensures { Opening result.ready (opening (D.Device.model device).count (D.Device.model device).shown) (D.Device.model device) (D.Device.model result.device) }
     {
-        let mut device = device;
         let ready = open_card(&mut device);
         Core { device, ready }
     }

@@ -62,14 +62,14 @@ impl<D: Device> Opened<D> {
 
     // The child of a folder that has the name: the first sound entry, by leaf, then place.
     pub fn find(&mut self, folder: &Handle, name: &[u8]) -> Result<Handle, Refusal>
-        ensures reads { Reads PowerGone (reading.find folder.now name.now) (on D.Device.model self.old) result (on D.Device.model self.new) }
+        ensures reads { Reads PowerGone (reading.find folder.now name.now) (on self.old) result (on self.new) }
     {
         self.core.find(folder, name)
     }
 
     // Kind, leaf count and parent.
     pub fn status(&mut self, handle: &Handle) -> Result<Status, Refusal>
-        ensures reads { Reads PowerGone (reading.status handle.now) (on D.Device.model self.old) (result_map_both status_view (λ e. e) result) (on D.Device.model self.new) }
+        ensures reads { Reads PowerGone (reading.status handle.now) (on self.old) (result_map_both status_view (λ e. e) result) (on self.new) }
     {
         self.core.status(handle)
     }
@@ -77,21 +77,21 @@ impl<D: Device> Opened<D> {
     // The sound entries of a folder, by leaf, then place, into the front of the lines; answers how many there are. Lines
     // beyond stay as they are, and all of them after a refusal, but power gone makes every line zero.
     pub fn list(&mut self, folder: &Handle, lines: &mut [EntryLine]) -> Result<usize, Refusal>
-        ensures reads { (a : Answer (List reading.EntryLine)) × Reads PowerGone (reading.list folder.now) (on D.Device.model self.old) a (on D.Device.model self.new) × LinesOf entry_row zero_entry a result lines.old lines.new }
+        ensures reads { (a : Answer (List reading.EntryLine)) × Reads PowerGone (reading.list folder.now) (on self.old) a (on self.new) × LinesOf entry_row zero_entry a result lines.old lines.new }
     {
         self.core.list(folder, lines)
     }
 
     // The leaves of reached slots that are not good, by slot and leaf, into the front of the lines, as `list` does.
     pub fn damage(&mut self, lines: &mut [DamageLine]) -> Result<usize, Refusal>
-        ensures reads { (a : Answer (List reading.DamageLine)) × Reads PowerGone reading.damage (on D.Device.model self.old) a (on D.Device.model self.new) × LinesOf damage_row zero_damage a result lines.old lines.new }
+        ensures reads { (a : Answer (List reading.DamageLine)) × Reads PowerGone reading.damage (on self.old) a (on self.new) × LinesOf damage_row zero_damage a result lines.old lines.new }
     {
         self.core.damage(lines)
     }
 
     // The file or folder that a path leads to, from the root. A refusal tells the component too.
     pub fn path(&mut self, path: &[u8]) -> Result<Handle, PathRefusal>
-        ensures reads { (i : ℕ) × Reads (λ b. record { lower = PowerGone b; component = i }) (reading.path path.now) (on D.Device.model self.old) result (on D.Device.model self.new) }
+        ensures reads { (i : ℕ) × Reads (λ b. record { lower = PowerGone b; component = i }) (reading.path path.now) (on self.old) result (on self.new) }
     {
         self.core.path(path)
     }
@@ -104,7 +104,7 @@ impl<D: Device> Opened<D> {
         leaf: LeafNo,
         buffer: &mut [u8],
     ) -> Result<usize, Refusal>
-        ensures reads { (a : Answer (List ℕ)) × Reads PowerGone (reading.read handle.now leaf.0 (length buffer.old)) (on D.Device.model self.old) a (on D.Device.model self.new) × Fills a result buffer.old buffer.new }
+        ensures reads { (a : Answer (List ℕ)) × Reads PowerGone (reading.read handle.now leaf.0 (length buffer.old)) (on self.old) a (on self.new) × Fills a result buffer.old buffer.new }
     {
         self.core.read(handle, leaf, buffer)
     }
@@ -118,7 +118,7 @@ impl<D: Device> Opened<D> {
 
     // Examines the next block, if one remains; answers how many remain then, and the highest identity seen so far.
     pub fn step(&mut self) -> Result<Surveying, Refusal>
-        ensures surveys { Surveys (on D.Device.model self.old) (result_map_both surveying_view (λ e. e) result) (on D.Device.model self.new) }
+        ensures surveys { Surveys (on self.old) (result_map_both surveying_view (λ e. e) result) (on self.new) }
     {
         let g = self.core.ready?;
         let next = self.progress.next;
@@ -140,7 +140,7 @@ impl<D: Device> Opened<D> {
     // Examines the blocks that remain, and gives the surveyed card. Never refuses: a card that is bad, or meets power gone
     // here, answers so from then on.
     pub fn end(self) -> Surveyed<D>
-        ensures ends { Ends (on D.Device.model self) (surveyed_on D.Device.model result) }
+        ensures ends { Ends (on self) (surveyed_on result) }
     {
         let Opened { core, mut progress } = self;
         let Core { mut device, ready } = core;

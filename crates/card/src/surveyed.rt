@@ -72,6 +72,7 @@ fn sync_answer(answer: Synced) -> Result<(), Refusal>
     }
 }
 
+// Kept: the reading calls stand here and in `Opened`, a line each over `Core`: a common trait would lend `&mut Core`, which may break `known`; a generic card asks for a trait of four ghost members, and is no plainer.
 impl<D: Device> Surveyed<D> {
     ghost use Rattle.std.specs.Prelude.{List, length};
     ghost use Rattle.std.specs.Result.{result_map_both as mapped_answer};
@@ -90,21 +91,21 @@ impl<D: Device> Surveyed<D> {
 
     // The child of a folder that has the name: the first sound entry, by leaf, then place.
     pub fn find(&mut self, folder: &Handle, name: &[u8]) -> Result<Handle, Refusal>
-        ensures reads { Reads PowerGone (reading.find folder.now name.now) (on D.Device.model self.old) result (on D.Device.model self.new) }
+        ensures reads { Reads PowerGone (reading.find folder.now name.now) (on self.old) result (on self.new) }
     {
         self.core.find(folder, name)
     }
 
     // The file or folder that a path leads to, from the root. A refusal tells the component too.
     pub fn path(&mut self, path: &[u8]) -> Result<Handle, PathRefusal>
-        ensures reads { (i : ℕ) × Reads (λ b. record { lower = PowerGone b; component = i }) (reading.path path.now) (on D.Device.model self.old) result (on D.Device.model self.new) }
+        ensures reads { (i : ℕ) × Reads (λ b. record { lower = PowerGone b; component = i }) (reading.path path.now) (on self.old) result (on self.new) }
     {
         self.core.path(path)
     }
 
     // Kind, leaf count and parent.
     pub fn status(&mut self, handle: &Handle) -> Result<Status, Refusal>
-        ensures reads { Reads PowerGone (reading.status handle.now) (on D.Device.model self.old) (mapped_answer status_view (λ e. e) result) (on D.Device.model self.new) }
+        ensures reads { Reads PowerGone (reading.status handle.now) (on self.old) (mapped_answer status_view (λ e. e) result) (on self.new) }
     {
         self.core.status(handle)
     }
@@ -117,28 +118,28 @@ impl<D: Device> Surveyed<D> {
         leaf: LeafNo,
         buffer: &mut [u8],
     ) -> Result<usize, Refusal>
-        ensures reads { (a : Answer (List ℕ)) × Reads PowerGone (reading.read handle.now leaf.0 (length buffer.old)) (on D.Device.model self.old) a (on D.Device.model self.new) × Fills a result buffer.old buffer.new }
+        ensures reads { (a : Answer (List ℕ)) × Reads PowerGone (reading.read handle.now leaf.0 (length buffer.old)) (on self.old) a (on self.new) × Fills a result buffer.old buffer.new }
     {
         self.core.read(handle, leaf, buffer)
     }
 
     // The sound entries of a folder, into the front of the lines; answers how many there are.
     pub fn list(&mut self, folder: &Handle, lines: &mut [EntryLine]) -> Result<usize, Refusal>
-        ensures reads { (a : Answer (List reading.EntryLine)) × Reads PowerGone (reading.list folder.now) (on D.Device.model self.old) a (on D.Device.model self.new) × LinesOf entry_row zero_entry a result lines.old lines.new }
+        ensures reads { (a : Answer (List reading.EntryLine)) × Reads PowerGone (reading.list folder.now) (on self.old) a (on self.new) × LinesOf entry_row zero_entry a result lines.old lines.new }
     {
         self.core.list(folder, lines)
     }
 
     // The leaves of reached slots that are not good, into the front of the lines; answers how many there are.
     pub fn damage(&mut self, lines: &mut [DamageLine]) -> Result<usize, Refusal>
-        ensures reads { (a : Answer (List reading.DamageLine)) × Reads PowerGone reading.damage (on D.Device.model self.old) a (on D.Device.model self.new) × LinesOf damage_row zero_damage a result lines.old lines.new }
+        ensures reads { (a : Answer (List reading.DamageLine)) × Reads PowerGone reading.damage (on self.old) a (on self.new) × LinesOf damage_row zero_damage a result lines.old lines.new }
     {
         self.core.damage(lines)
     }
 
     // How many bodies and slots are free: no device call.
     pub fn space(&self) -> Result<Space, Refusal>
-        ensures reads { Reads PowerGone reading.space (on D.Device.model self.now) (mapped_answer space_view (λ e. e) result) (on D.Device.model self.now) }
+        ensures reads { Reads PowerGone reading.space (on self.now) (mapped_answer space_view (λ e. e) result) (on self.now) }
     {
         let g = self.core.ready?;
         Ok(Space {
@@ -149,7 +150,7 @@ impl<D: Device> Surveyed<D> {
 
     // Makes an empty file or folder in a folder, under a name that is not taken; answers its handle.
     pub fn create(&mut self, kind: Kind, folder: &Handle, name: &[u8]) -> Result<Handle, Refusal>
-        ensures changes { Changes (changing.create kind folder.now name.now) (on D.Device.model self.old) result (on D.Device.model self.new) }
+        ensures changes { Changes (changing.create kind folder.now name.now) (on self.old) result (on self.new) }
     {
         check_name(name)?;
         let g = self.core.ready?;
@@ -175,7 +176,7 @@ impl<D: Device> Surveyed<D> {
 
     // A leaf of a file gets these bytes, at most 496: a good leaf below the count, or a new one at the count.
     pub fn write(&mut self, file: &Handle, leaf: LeafNo, bytes: &[u8]) -> Result<(), Refusal>
-        ensures changes { Changes (changing.write file.now leaf.0 bytes.now) (on D.Device.model self.old) result (on D.Device.model self.new) }
+        ensures changes { Changes (changing.write file.now leaf.0 bytes.now) (on self.old) result (on self.new) }
     {
         if bytes.len() > 496 {
             return Err(Refusal::BadLength(bytes.len()));
@@ -199,7 +200,7 @@ impl<D: Device> Surveyed<D> {
 
     // The file keeps its first n leaves.
     pub fn shorten(&mut self, file: &Handle, n: LeafNo) -> Result<(), Refusal>
-        ensures changes { Changes (changing.shorten file.now n.0) (on D.Device.model self.old) result (on D.Device.model self.new) }
+        ensures changes { Changes (changing.shorten file.now n.0) (on self.old) result (on self.new) }
     {
         let g = self.core.ready?;
         let planned = plan_shorten(
@@ -218,7 +219,7 @@ impl<D: Device> Surveyed<D> {
 
     // Removes what the name leads to: a file, or a folder that has no sound entry.
     pub fn remove(&mut self, folder: &Handle, name: &[u8]) -> Result<(), Refusal>
-        ensures changes { Changes (changing.remove folder.now name.now) (on D.Device.model self.old) result (on D.Device.model self.new) }
+        ensures changes { Changes (changing.remove folder.now name.now) (on self.old) result (on self.new) }
     {
         check_name(name)?;
         let g = self.core.ready?;
@@ -239,9 +240,9 @@ impl<D: Device> Surveyed<D> {
 
     // Asks the device that all that is shown lands (a flush), and passes its answer on.
     pub fn sync(&mut self) -> Result<(), Refusal>
-        ensures syncs { Syncs (on D.Device.model self.old) result (on D.Device.model self.new) }
+        ensures syncs { Syncs (on self.old) result (on self.new) }
     {
-        let _g = self.core.ready?;
+        self.core.ready?;
         let answer = self.core.device.sync().map_err(Refusal::from);
         sync_answer(self.core.keep(answer)?)
     }

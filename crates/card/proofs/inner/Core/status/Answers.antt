@@ -1,8 +1,7 @@
-use Rattle.std.proofs.Common.{ℕ, Ok, Err, refl, ap, ◌∙◌}
+use Rattle.std.proofs.Common.{Err, refl, ap, ◌∙◌}
 use Rattle.std.specs.Result.{result_map_both}
 use Rattle.std.proofs.lemmas.Result.{err_from_is_err_and}
 use Rattle.layout.specs.Sizes.{sizes}
-use Rattle.layout.proofs.Numbers.{length_numbers}
 use Rattle.rule.specs.Reading.{status}
 use Rattle.walk.specs.Still.{shows}
 use Rattle.card_lists.specs.Ready.{ready_view}

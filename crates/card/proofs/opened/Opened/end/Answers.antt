@@ -1,9 +1,8 @@
 use Rattle.std.proofs.Common.{sym, refl, ap, ◌∙◌, subst}
 use Rattle.history.specs.Events.{Ends}
-use Rattle.marks.specs.declared.mark.Marks.{Marks}
 use Rattle.change.specs.declared.plan.Memory.{Memory}
 use Rattle.card_lists.specs.Ready.{Kept}
-use Rattle.card.specs.Valid.{Sees, Seen, Knows, opened_state, surveyed_state}
+use Rattle.card.specs.Valid.{Sees, Seen, Knows, opened_state}
 use Rattle.card.proofs.Surveys.{end_unready, end_done, end_knows, end_refused, surveyed_same}
 use Rattle.card.proofs.opened.Opened.end.Goals as goal
 

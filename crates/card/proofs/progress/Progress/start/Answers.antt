@@ -1,4 +1,3 @@
-use Rattle.std.proofs.Common.{refl}
 use Rattle.card.proofs.Progresses.{learned_none}
 use Rattle.card.proofs.progress.Progress.start.Goals as goal
 

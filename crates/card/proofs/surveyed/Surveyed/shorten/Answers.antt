@@ -1,21 +1,15 @@
-use Rattle.std.proofs.Common.{◌≡◌, ◌-◌, ℕ, Some, None, Option, Err, sym, refl, ap, ◌∙◌, subst, arith}
-use Rattle.std.specs.Option.{option_map}
+use Rattle.std.proofs.Common.{◌-◌, Err, refl, ap, ◌∙◌}
 use Rattle.std.proofs.lemmas.Result.{err_from_is_err_and}
-use Rattle.layout.specs.Format.{back}
 use Rattle.layout.specs.Sizes.{sizes}
-use Rattle.marks.specs.Marks.{slot_line, with_gained, with_slot, without}
-use Rattle.marks.specs.declared.mark.Marks.{Marks}
-use Rattle.moves.specs.Moves.{body_added, body_taken}
+use Rattle.marks.specs.Marks.{without}
 use Rattle.moves.proofs.Follows.{shorten_marks}
 use Rattle.moves.proofs.Lines.{room_stays}
 use Rattle.rule.specs.Agree.{count, from}
-use Rattle.rule.specs.Changing.{shorten, open_place, new_slot}
+use Rattle.rule.specs.Changing.{shorten}
 use Rattle.walk.specs.Copies.{copied}
-use Rattle.walk.specs.Still.{shows}
 use Rattle.change.specs.Plans.{card_view, plan_view}
 use Rattle.card_lists.specs.Ready.{ready_view}
 use Rattle.card.specs.Valid.{memory_view}
-use Rattle.card.specs.Views.{block_number, gained_block}
 use Rattle.card.proofs.Calling.{shorten_planning}
 use Rattle.card.proofs.Plans.{plan_fits, plan_refused, plan_told, plan_broken, plan_done, plan_marked, changes_early}
 use Rattle.card.proofs.Ready.{shorten_unready}
