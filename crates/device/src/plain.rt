@@ -38,13 +38,12 @@ impl<'a> Plain<'a> {
         requires { b < length self.now.image.now / 512 }
         ensures { result ≡ block self.now.image.now b }
     {
-        let start = 512 * b as usize;
-        let mut out = [0u8; 512];
-        out.copy_from_slice(&self.image[start..start + 512]);
-        out
+        let (blocks, _) = self.image.as_chunks::<512>();
+        blocks[b as usize]
     }
 }
 
+// Kept: the library says nothing of what a slice ends as after as_chunks_mut, so no proof closes over it.
 fn store(image: &mut [u8], b: u16, bytes: &[u8; 512])
     requires { b < length image.old / 512 }
     ensures { image.new ≡ stored image.old b bytes.now }

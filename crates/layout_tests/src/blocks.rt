@@ -7,29 +7,37 @@ use std::test::Fail;
 #[test]
 fn limits(rt: HostRuntime) {
     // Block count, slot count, and whether they are within the limits.
-    let rows: [[u16; 3]; 10] = [
-        [4, 2, 1],
-        [3, 2, 0],
-        [4, 1, 0],
-        [4096, 2, 1],
-        [4097, 2, 0],
-        [258, 256, 1],
-        [257, 256, 0],
-        [300, 257, 0],
-        [0, 0, 0],
-        [65535, 65535, 0],
+    let rows = [
+        (4, 2, true),
+        (3, 2, false),
+        (4, 1, false),
+        (4096, 2, true),
+        (4097, 2, false),
+        (258, 256, true),
+        (257, 256, false),
+        (300, 257, false),
+        (0, 0, false),
+        (65535, 65535, false),
     ];
-    for k in 0..rows.len() {
-        let [blocks, slots, fits] = rows[k];
-        assert_eq!(rt; Geometry::new(blocks, slots).is_some(), fits == 1);
+    for (blocks, slots, fits) in rows {
+        assert_eq!(rt; Geometry::new(blocks, slots).is_some(), fits);
     }
 }
 
-// A row is one block: the kind of a sample, a byte and a number that is written over it there, where the block lies,
-// and the kind that it is then.
-type Row = [u16; 5];
+// The kinds of block, in the order of their numbers.
+#[derive(Clone, Copy, PartialEq, Eq, Debug)]
+enum Kind {
+    Blank,
+    Cover,
+    FileSlot,
+    FolderSlot,
+    FileBody,
+    FolderBody,
+}
 
-const ILL: u16 = 9;
+// A row is one block: the kind of a sample, a byte and a number that is written over it there, where the block lies,
+// and the kind that it is then, if it is well formed.
+type Row = (Kind, u16, u16, u16, Option<Kind>);
 
 fn put(block: &mut [u8; 512], offset: u16, value: u16) {
     let [low, high] = value.to_le_bytes();
@@ -41,41 +49,44 @@ fn put(block: &mut [u8; 512], offset: u16, value: u16) {
 }
 
 // A block of each kind, well formed.
-fn sample(kind: u16) -> [u8; 512] {
+fn sample(kind: Kind) -> [u8; 512] {
     let mut block = [0; 512];
-    if kind == 1 {
-        put(&mut block, 0, 257);
-        put(&mut block, 2, 8);
-        put(&mut block, 4, 3);
-    } else if kind < 4 {
-        put(&mut block, 0, kind);
-        put(&mut block, 2, 1);
-        put(&mut block, 4, 2);
-        put(&mut block, 8, 1);
-        for k in 0..64u16 {
-            put(&mut block, 16 + 2 * k, 5);
+    match kind {
+        Kind::Blank => {}
+        Kind::Cover => {
+            put(&mut block, 0, 257);
+            put(&mut block, 2, 8);
+            put(&mut block, 4, 3);
         }
-    } else {
-        put(&mut block, 0, kind);
-        put(&mut block, 2, 1);
-        put(&mut block, 4, 2);
-        put(&mut block, 10, 480);
+        Kind::FileSlot | Kind::FolderSlot => {
+            put(&mut block, 0, kind as u16);
+            put(&mut block, 2, 1);
+            put(&mut block, 4, 2);
+            put(&mut block, 8, 1);
+            for k in 0..64u16 {
+                put(&mut block, 16 + 2 * k, 5);
+            }
+        }
+        Kind::FileBody | Kind::FolderBody => {
+            put(&mut block, 0, kind as u16);
+            put(&mut block, 2, 1);
+            put(&mut block, 4, 2);
+            put(&mut block, 10, 480);
+        }
     }
     block
 }
 
-fn kind_of(g: &Geometry, at: u16, block: &[u8; 512]) -> u16 {
+// The kind of a block, if it is well formed.
+fn kind_of(g: &Geometry, at: u16, block: &[u8; 512]) -> Option<Kind> {
     match parse(g, BlockNo(at), block) {
-        Block::Blank => 0,
-        Block::Cover {
-            blocks: _,
-            slots: _,
-        } => 1,
-        Block::FileSlot(_) => 2,
-        Block::FolderSlot(_) => 3,
-        Block::FileBody(_) => 4,
-        Block::FolderBody(_) => 5,
-        Block::IllFormed => ILL,
+        Block::Blank => Some(Kind::Blank),
+        Block::Cover { .. } => Some(Kind::Cover),
+        Block::FileSlot(_) => Some(Kind::FileSlot),
+        Block::FolderSlot(_) => Some(Kind::FolderSlot),
+        Block::FileBody(_) => Some(Kind::FileBody),
+        Block::FolderBody(_) => Some(Kind::FolderBody),
+        Block::IllFormed => None,
     }
 }
 
@@ -83,8 +94,8 @@ fn check_rows(rows: &[Row]) -> Result<(), Fail> {
     let Some(g) = Geometry::new(8, 3) else {
         return Err(Fail::new("limits"));
     };
-    for k in 0..rows.len() {
-        let [kind, offset, value, at, is] = rows[k];
+    for (k, row) in rows.iter().enumerate() {
+        let (kind, offset, value, at, is) = *row;
         let mut block = sample(kind);
         put(&mut block, offset, value);
         if kind_of(&g, at, &block) != is {
@@ -98,99 +109,98 @@ fn check_rows(rows: &[Row]) -> Result<(), Fail> {
 #[test]
 fn regions() -> Result<(), Fail> {
     check_rows(&[
-        [1, 300, 1, 0, 1],
-        [1, 300, 1, 1, ILL],
-        [1, 300, 1, 4, ILL],
-        [2, 300, 1, 0, ILL],
-        [2, 300, 1, 1, 2],
-        [3, 300, 1, 3, 3],
-        [3, 300, 1, 4, ILL],
-        [2, 300, 1, 8, ILL],
-        [4, 300, 1, 3, ILL],
-        [4, 300, 1, 4, 4],
-        [5, 300, 1, 7, 5],
-        [5, 300, 1, 8, ILL],
-        [4, 300, 1, 65535, ILL],
-        [2, 0, 0, 1, 0],
-        [4, 0, 0, 4, 0],
-        [2, 0, 0, 0, ILL],
-        [2, 0, 1, 1, ILL],
-        [2, 0, 6, 1, ILL],
-        [4, 0, 3, 4, ILL],
-        [4, 0, 255, 4, ILL],
+        (Kind::Cover, 300, 1, 0, Some(Kind::Cover)),
+        (Kind::Cover, 300, 1, 1, None),
+        (Kind::Cover, 300, 1, 4, None),
+        (Kind::FileSlot, 300, 1, 0, None),
+        (Kind::FileSlot, 300, 1, 1, Some(Kind::FileSlot)),
+        (Kind::FolderSlot, 300, 1, 3, Some(Kind::FolderSlot)),
+        (Kind::FolderSlot, 300, 1, 4, None),
+        (Kind::FileSlot, 300, 1, 8, None),
+        (Kind::FileBody, 300, 1, 3, None),
+        (Kind::FileBody, 300, 1, 4, Some(Kind::FileBody)),
+        (Kind::FolderBody, 300, 1, 7, Some(Kind::FolderBody)),
+        (Kind::FolderBody, 300, 1, 8, None),
+        (Kind::FileBody, 300, 1, 65535, None),
+        (Kind::FileSlot, 0, 0, 1, Some(Kind::Blank)),
+        (Kind::FileBody, 0, 0, 4, Some(Kind::Blank)),
+        (Kind::FileSlot, 0, 0, 0, None),
+        (Kind::FileSlot, 0, 1, 1, None),
+        (Kind::FileSlot, 0, 6, 1, None),
+        (Kind::FileBody, 0, 3, 4, None),
+        (Kind::FileBody, 0, 255, 4, None),
     ])
 }
 
 #[test]
 fn slots() -> Result<(), Fail> {
     check_rows(&[
-        [2, 2, 0, 1, 2],
-        [2, 2, 64, 1, 2],
-        [2, 2, 65, 1, ILL],
-        [2, 2, 257, 1, ILL],
-        [2, 4, 0, 1, ILL],
-        [2, 4, 1, 1, 2],
-        [2, 6, 65535, 1, 2],
-        [2, 8, 0, 1, ILL],
-        [2, 10, 65535, 1, 2],
-        [2, 12, 2, 1, 2],
-        [2, 12, 3, 1, ILL],
-        [2, 12, 256, 1, ILL],
-        [2, 16, 3, 1, ILL],
-        [2, 16, 4, 1, 2],
-        [2, 16, 7, 1, 2],
-        [2, 16, 8, 1, ILL],
-        [2, 18, 0, 1, 2],
-        [2, 14, 65535, 1, 2],
-        [2, 144, 65535, 1, 2],
-        [2, 510, 65535, 1, 2],
+        (Kind::FileSlot, 2, 0, 1, Some(Kind::FileSlot)),
+        (Kind::FileSlot, 2, 64, 1, Some(Kind::FileSlot)),
+        (Kind::FileSlot, 2, 65, 1, None),
+        (Kind::FileSlot, 2, 257, 1, None),
+        (Kind::FileSlot, 4, 0, 1, None),
+        (Kind::FileSlot, 4, 1, 1, Some(Kind::FileSlot)),
+        (Kind::FileSlot, 6, 65535, 1, Some(Kind::FileSlot)),
+        (Kind::FileSlot, 8, 0, 1, None),
+        (Kind::FileSlot, 10, 65535, 1, Some(Kind::FileSlot)),
+        (Kind::FileSlot, 12, 2, 1, Some(Kind::FileSlot)),
+        (Kind::FileSlot, 12, 3, 1, None),
+        (Kind::FileSlot, 12, 256, 1, None),
+        (Kind::FileSlot, 16, 3, 1, None),
+        (Kind::FileSlot, 16, 4, 1, Some(Kind::FileSlot)),
+        (Kind::FileSlot, 16, 7, 1, Some(Kind::FileSlot)),
+        (Kind::FileSlot, 16, 8, 1, None),
+        (Kind::FileSlot, 18, 0, 1, Some(Kind::FileSlot)),
+        (Kind::FileSlot, 14, 65535, 1, Some(Kind::FileSlot)),
+        (Kind::FileSlot, 144, 65535, 1, Some(Kind::FileSlot)),
+        (Kind::FileSlot, 510, 65535, 1, Some(Kind::FileSlot)),
     ])
 }
 
 #[test]
 fn bodies() -> Result<(), Fail> {
     check_rows(&[
-        [4, 2, 0, 4, 4],
-        [4, 2, 2, 4, 4],
-        [4, 2, 3, 4, ILL],
-        [4, 4, 0, 4, ILL],
-        [4, 4, 1, 4, 4],
-        [4, 6, 65535, 4, 4],
-        [4, 8, 63, 4, 4],
-        [4, 8, 64, 4, ILL],
-        [4, 10, 0, 4, 4],
-        [4, 10, 496, 4, 4],
-        [4, 10, 497, 4, ILL],
-        [5, 10, 479, 4, ILL],
-        [5, 10, 481, 4, ILL],
-        [5, 8, 64, 4, ILL],
-        [5, 12, 65535, 4, 5],
-        [5, 16, 65535, 4, 5],
-        [5, 510, 65535, 4, 5],
+        (Kind::FileBody, 2, 0, 4, Some(Kind::FileBody)),
+        (Kind::FileBody, 2, 2, 4, Some(Kind::FileBody)),
+        (Kind::FileBody, 2, 3, 4, None),
+        (Kind::FileBody, 4, 0, 4, None),
+        (Kind::FileBody, 4, 1, 4, Some(Kind::FileBody)),
+        (Kind::FileBody, 6, 65535, 4, Some(Kind::FileBody)),
+        (Kind::FileBody, 8, 63, 4, Some(Kind::FileBody)),
+        (Kind::FileBody, 8, 64, 4, None),
+        (Kind::FileBody, 10, 0, 4, Some(Kind::FileBody)),
+        (Kind::FileBody, 10, 496, 4, Some(Kind::FileBody)),
+        (Kind::FileBody, 10, 497, 4, None),
+        (Kind::FolderBody, 10, 479, 4, None),
+        (Kind::FolderBody, 10, 481, 4, None),
+        (Kind::FolderBody, 8, 64, 4, None),
+        (Kind::FolderBody, 12, 65535, 4, Some(Kind::FolderBody)),
+        (Kind::FolderBody, 16, 65535, 4, Some(Kind::FolderBody)),
+        (Kind::FolderBody, 510, 65535, 4, Some(Kind::FolderBody)),
     ])
 }
 
 #[test]
 fn covers(rt: HostRuntime) -> Result<(), Fail> {
     let rows: [Row; 12] = [
-        [1, 0, 257, 0, 1],
-        [1, 0, 1, 0, ILL],
-        [1, 0, 513, 0, ILL],
-        [1, 2, 5, 0, 1],
-        [1, 2, 4, 0, ILL],
-        [1, 2, 4096, 0, 1],
-        [1, 2, 4097, 0, ILL],
-        [1, 4, 2, 0, 1],
-        [1, 4, 1, 0, ILL],
-        [1, 4, 6, 0, 1],
-        [1, 4, 7, 0, ILL],
-        [1, 6, 65535, 0, 1],
+        (Kind::Cover, 0, 257, 0, Some(Kind::Cover)),
+        (Kind::Cover, 0, 1, 0, None),
+        (Kind::Cover, 0, 513, 0, None),
+        (Kind::Cover, 2, 5, 0, Some(Kind::Cover)),
+        (Kind::Cover, 2, 4, 0, None),
+        (Kind::Cover, 2, 4096, 0, Some(Kind::Cover)),
+        (Kind::Cover, 2, 4097, 0, None),
+        (Kind::Cover, 4, 2, 0, Some(Kind::Cover)),
+        (Kind::Cover, 4, 1, 0, None),
+        (Kind::Cover, 4, 6, 0, Some(Kind::Cover)),
+        (Kind::Cover, 4, 7, 0, None),
+        (Kind::Cover, 6, 65535, 0, Some(Kind::Cover)),
     ];
-    for k in 0..rows.len() {
-        let [_, offset, value, _, is] = rows[k];
-        let mut block = sample(1);
+    for (kind, offset, value, _, is) in rows {
+        let mut block = sample(kind);
         put(&mut block, offset, value);
-        assert_eq!(rt; parse_cover(&block).is_some(), is == 1);
+        assert_eq!(rt; parse_cover(&block).is_some(), is.is_some());
     }
     check_rows(&rows)
 }

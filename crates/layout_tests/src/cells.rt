@@ -8,18 +8,20 @@ use entries::identity::highest_told;
 use layout::geometry::Geometry;
 use std::test::Fail;
 
+// What a cell may be.
+#[derive(Clone, Copy, PartialEq, Eq, Debug)]
+enum State {
+    Blank,
+    Used,
+    IllFormed,
+}
+
 // A row is one cell: its length byte, the low bytes of the child's slot and identity, a byte that is written over at one
 // place, and what the cell is then.
-type Row = [u8; 6];
+type Row = ([u8; 5], State);
 
-const BLANK: u8 = 0;
-
-const USED: u8 = 1;
-
-const ILL: u8 = 2;
-
-fn cell(row: Row) -> [u8; 32] {
-    let [length, slot, identity, at, byte, _] = row;
+fn cell(bytes: [u8; 5]) -> [u8; 32] {
+    let [length, slot, identity, at, byte] = bytes;
     let mut cell = [97; 32];
     cell[0..8].copy_from_slice(&[length, 0, slot, 0, identity, 0, 0, 0]);
     if (at as usize) < 32 {
@@ -28,11 +30,11 @@ fn cell(row: Row) -> [u8; 32] {
     cell
 }
 
-fn state(g: &Geometry, bytes: &[u8]) -> u8 {
+fn state_of(g: &Geometry, bytes: &[u8]) -> State {
     match parse_cell(g, bytes) {
-        Cell::Blank => BLANK,
-        Cell::Used(_) => USED,
-        Cell::IllFormed => ILL,
+        Cell::Blank => State::Blank,
+        Cell::Used(_) => State::Used,
+        Cell::IllFormed => State::IllFormed,
     }
 }
 
@@ -43,31 +45,30 @@ fn entries(rt: HostRuntime) -> Result<(), Fail> {
         return Err(Fail::new("limits"));
     };
     let rows: [Row; 18] = [
-        [0, 1, 1, 1, 0, ILL],
-        [1, 1, 1, 1, 0, USED],
-        [24, 1, 1, 1, 255, USED],
-        [25, 1, 1, 1, 0, ILL],
-        [255, 1, 1, 1, 0, ILL],
-        [4, 0, 1, 1, 0, ILL],
-        [4, 2, 1, 1, 0, USED],
-        [4, 3, 1, 1, 0, ILL],
-        [4, 1, 1, 3, 1, ILL],
-        [4, 1, 0, 1, 0, ILL],
-        [4, 1, 0, 7, 255, USED],
-        [4, 1, 1, 8, 47, ILL],
-        [4, 1, 1, 8, 0, ILL],
-        [4, 1, 1, 8, 46, USED],
-        [4, 1, 1, 11, 47, ILL],
-        [4, 1, 1, 12, 47, USED],
-        [24, 1, 1, 31, 0, ILL],
-        [23, 1, 1, 31, 0, USED],
+        ([0, 1, 1, 1, 0], State::IllFormed),
+        ([1, 1, 1, 1, 0], State::Used),
+        ([24, 1, 1, 1, 255], State::Used),
+        ([25, 1, 1, 1, 0], State::IllFormed),
+        ([255, 1, 1, 1, 0], State::IllFormed),
+        ([4, 0, 1, 1, 0], State::IllFormed),
+        ([4, 2, 1, 1, 0], State::Used),
+        ([4, 3, 1, 1, 0], State::IllFormed),
+        ([4, 1, 1, 3, 1], State::IllFormed),
+        ([4, 1, 0, 1, 0], State::IllFormed),
+        ([4, 1, 0, 7, 255], State::Used),
+        ([4, 1, 1, 8, 47], State::IllFormed),
+        ([4, 1, 1, 8, 0], State::IllFormed),
+        ([4, 1, 1, 8, 46], State::Used),
+        ([4, 1, 1, 11, 47], State::IllFormed),
+        ([4, 1, 1, 12, 47], State::Used),
+        ([24, 1, 1, 31, 0], State::IllFormed),
+        ([23, 1, 1, 31, 0], State::Used),
     ];
-    for k in 0..rows.len() {
-        let row = rows[k];
-        assert_eq!(rt; state(&g, &cell(row)), row[5]);
+    for (bytes, is) in rows {
+        assert_eq!(rt; state_of(&g, &cell(bytes)), is);
     }
-    assert_eq!(rt; state(&g, &[0; 32]), BLANK);
-    assert_eq!(rt; state(&g, &[0; 31]), ILL);
+    assert_eq!(rt; state_of(&g, &[0; 32]), State::Blank);
+    assert_eq!(rt; state_of(&g, &[0; 31]), State::IllFormed);
     Ok(())
 }
 
@@ -101,8 +102,9 @@ fn told(rt: HostRuntime) -> Result<(), Fail> {
     let Some(last) = encode_entry(b"bass", &child) else {
         return Err(Fail::new("name"));
     };
-    let mut block = [7; 512];
-    assert!(rt; encode_folder_change(&mut block, &back, &[0; 480], 14, &last));
+    let Some(block) = encode_folder_change(&back, &[0; 480], 14, &last) else {
+        return Err(Fail::new("folder"));
+    };
     assert_eq!(rt; highest_told(&g, BlockNo(4), &block).0, 70000);
     assert_eq!(rt; highest_told(&g, BlockNo(3), &block).0, 0);
     assert!(rt; cell_bytes(&block[16..496], 14) == Some(&block[464..496]));

@@ -1,4 +1,5 @@
 -- What the words of a script mean.
+use Rattle.std.specs.List.{list_all}
 use Rattle.std.specs.Prelude.{ℕ, ◌+◌, ◌-◌, ◌*◌, ◌<◌, Bool, true, false, cond, List, length, Some, None, fold, Option, ◌==◌, ◌≢◌, nat_le, slice_index}
 
 abbrev pub within : ℕ → ℕ → ℕ → Bool
@@ -27,11 +28,8 @@ nibble_of b = cond (within 48 57 b) (Some (b - 48)) (cond (within 97 102 b) (Som
 abbrev pub is_nibble : ℕ → Bool
 is_nibble b = cond (within 48 57 b) true (within 97 102 b)
 
-abbrev pub and_nibble : Bool → ℕ → Bool
-and_nibble all b = cond all (is_nibble b) false
-
 abbrev pub all_nibbles : List ℕ → Bool
-all_nibbles word = fold and_nibble true word
+all_nibbles word = list_all is_nibble word
 
 -- no byte of the first n is the mark
 abbrev pub Unbroken : ℕ → List ℕ → ℕ → Type 0

@@ -5,13 +5,13 @@ use base::owner::{Handle, Kind};
 use std::alloc::{AllocError, Global};
 
 // Bytes as they stand in a script: an even number of hex digits in lower case.
-#[derive(Clone, Copy, Drop)]
+#[derive(Clone, Copy, PartialEq, Eq, Debug)]
 pub struct Hex<'a> {
     digits: &'a [u8],
 }
 
 // The devices over the image, the outermost first.
-#[derive(Clone, Copy, Drop)]
+#[derive(Clone, Copy, PartialEq, Eq, Debug)]
 pub enum Layers {
     Plain,
     Buffered,
@@ -20,7 +20,7 @@ pub enum Layers {
     FailingBuffered(u32),
 }
 
-#[derive(Clone, Copy, Drop)]
+#[derive(Clone, Copy, PartialEq, Eq, Debug)]
 pub enum Command<'a> {
     Card(u16),
     Layers(Layers),
@@ -49,7 +49,7 @@ pub enum Command<'a> {
 impl<'a> Hex<'a> {
     // A word as bytes: `-` has none.
     pub fn new(word: &'a [u8]) -> Option<Hex<'a>> {
-        if word.len() == 1 && word[0] == 45 {
+        if let b"-" = word {
             return Some(Hex { digits: &word[1..] });
         }
         if word.is_empty() || word.len() % 2 == 1 || !all_nibbles(word) {
@@ -64,26 +64,20 @@ impl<'a> Hex<'a> {
 
     // The byte at a place; 0 past the end.
     pub fn byte(&self, place: usize) -> u8 {
-        let high = hex_digit(self.digits, place.saturating_mul(2));
-        let low = hex_digit(self.digits, place.saturating_mul(2).saturating_add(1));
-        (high & 15) * 16 + (low & 15)
+        self.digits.chunks_exact(2).nth(place).map_or(0, value_of)
     }
 
     pub fn bytes(&self, heap: Global) -> Result<Vec<u8>, AllocError> {
-        let mut out = Vec::with_capacity(heap, self.len())?;
-        for place in 0..self.len() {
-            out.push(self.byte(place))?;
-        }
-        Ok(out)
+        self.digits.chunks_exact(2).map(value_of).collect(heap)
     }
 }
 
-// The value of the digit at a place; 0 past the end.
-fn hex_digit(digits: &[u8], place: usize) -> u8 {
-    match digits.get(place) {
-        Some(digit) => nibble(*digit).unwrap_or(0),
-        None => 0,
-    }
+// The byte that two digits stand for.
+fn value_of(pair: &[u8]) -> u8 {
+    pair.iter().fold(
+        0,
+        |value, digit| (value & 15) * 16 + (nibble(*digit).unwrap_or(0) & 15),
+    )
 }
 
 // The words of a line that are still to be read. No word is left once the line's end was met.
@@ -100,7 +94,7 @@ impl<'a> Words<'a> {
     // The next word, which may be empty: between two spaces, or at an end of the line.
     pub fn word(&mut self) -> Option<&'a [u8]> {
         let line = self.rest?;
-        let end = part_end(line, 32);
+        let end = part_end(line, b' ');
         self.rest = if end < line.len() {
             Some(&line[end + 1..])
         } else {
@@ -273,25 +267,13 @@ pub fn parse<'a>(line: &'a [u8]) -> Option<Command<'a>> {
     let mut words = Words::new(line);
     let name = words.word()?;
     let command = named(name, &mut words)?;
-    match words.rest {
-        None => Some(command),
-        Some(_) => None,
+    if words.rest.is_some() {
+        return None;
     }
+    Some(command)
 }
 
 // Whether a line prints nothing: a note, or spaces alone.
 pub fn is_silent(line: &[u8]) -> bool {
-    match line.first() {
-        Some(35) => true,
-        _ => all_spaces(line),
-    }
-}
-
-fn all_spaces(line: &[u8]) -> bool {
-    for byte in line {
-        if *byte != 32 {
-            return false;
-        }
-    }
-    true
+    matches!(line.first(), Some(b'#')) || line.iter().all(|byte| *byte == b' ')
 }
