@@ -1,5 +1,5 @@
 -- The four changing calls: what is known of each once its plan was made.
-use Rattle.std.proofs.Common.{◌≡◌, ℕ, List, Ok, refl}
+use Rattle.std.proofs.Common.{◌≡◌, ℕ, List, Ok, Option, refl}
 use Rattle.base.specs.declared.owner.Kind.{Kind}
 use Rattle.base.specs.declared.owner.Handle.{Handle}
 use Rattle.device.specs.Model.{Model}
@@ -11,12 +11,12 @@ use Rattle.moves.proofs.Stays.{create_stays_tied, write_stays_tied, shorten_stay
 use Rattle.rule.specs.Changing.{create, write, shorten, remove}
 use Rattle.rule.specs.Check.{Answer}
 use Rattle.walk.specs.Still.{Gives}
+use Rattle.walk.specs.declared.node.Node.{Node}
 use Rattle.change.specs.Plans.{card_view, Grounded, CreatePlanned, WritePlanned, ShortenPlanned, RemovePlanned}
-use Rattle.change.specs.declared.plan.CreatePlan.{CreatePlan}
+use Rattle.change.specs.declared.plan.Accepted.{Accepted}
+use Rattle.change.specs.declared.plan.Created.{Created}
+use Rattle.change.specs.declared.plan.Gained.{Gained}
 use Rattle.change.specs.declared.plan.Memory.{Memory}
-use Rattle.change.specs.declared.plan.RemovePlan.{RemovePlan}
-use Rattle.change.specs.declared.plan.ShortenPlan.{ShortenPlan}
-use Rattle.change.specs.declared.plan.WritePlan.{WritePlan}
 use Rattle.card_lists.specs.Ready.{Kept}
 use Rattle.card.specs.Valid.{Knows, Known}
 use Rattle.card.proofs.Insides.{create_inside, write_inside, shorten_inside, remove_inside}
@@ -53,18 +53,18 @@ module _ (g : CardGeometry) (mem : Memory) (ms : Marks) (m : Model) (w : Knows g
   }
 
 module _ {g : CardGeometry} {c : Kept} {mem : Memory} {ms : Marks} {m z : Model} where
-  pub create_planning : {d : Kind} {f : Handle} {x : Name} {y : Answer CreatePlan} → (Grounded g m ms → Gives g y (create d f x (card_view g mem) m.shown) (CreatePlanned g m mem d f x) m z) → c ≡ Ok g → Known c mem ms m →
+  pub create_planning : {d : Kind} {f : Handle} {x : Name} {y : Answer (Accepted Created)} → (Grounded g m ms → Gives g y (create d f x (card_view g mem) m.shown) (CreatePlanned g m mem d f x) m z) → c ≡ Ok g → Known c mem ms m →
       Planning (create d f x) (CreatePlanned g m mem d f x) g c mem ms m y z
   create_planning gives is known = planning _ _ g c mem ms m _ z (λ w. create_call g mem ms m w _ _ _) is known gives
 
-  pub write_planning : {h : Handle} {k : ℕ} {x : List ℕ} {y : Answer WritePlan} → (Grounded g m ms → Gives g y (write h k x (card_view g mem) m.shown) (WritePlanned g m mem h k x) m z) → c ≡ Ok g → Known c mem ms m →
+  pub write_planning : {h : Handle} {k : ℕ} {x : List ℕ} {y : Answer (Accepted (Option Gained))} → (Grounded g m ms → Gives g y (write h k x (card_view g mem) m.shown) (WritePlanned g m mem h k x) m z) → c ≡ Ok g → Known c mem ms m →
       Planning (write h k x) (WritePlanned g m mem h k x) g c mem ms m y z
   write_planning gives is known = planning _ _ g c mem ms m _ z (λ w. write_call g mem ms m w _ _ _) is known gives
 
-  pub shorten_planning : {h : Handle} {k : ℕ} {y : Answer ShortenPlan} → (Grounded g m ms → Gives g y (shorten h k (card_view g mem) m.shown) (ShortenPlanned g m mem h k) m z) → c ≡ Ok g → Known c mem ms m →
+  pub shorten_planning : {h : Handle} {k : ℕ} {y : Answer (Accepted Node)} → (Grounded g m ms → Gives g y (shorten h k (card_view g mem) m.shown) (ShortenPlanned g m mem h k) m z) → c ≡ Ok g → Known c mem ms m →
       Planning (shorten h k) (ShortenPlanned g m mem h k) g c mem ms m y z
   shorten_planning gives is known = planning _ _ g c mem ms m _ z (λ w. shorten_call g mem ms m w _ _) is known gives
 
-  pub remove_planning : {f : Handle} {x : Name} {y : Answer RemovePlan} → (Grounded g m ms → Gives g y (remove f x (card_view g mem) m.shown) (RemovePlanned g m mem f x) m z) → c ≡ Ok g → Known c mem ms m →
+  pub remove_planning : {f : Handle} {x : Name} {y : Answer (Accepted Node)} → (Grounded g m ms → Gives g y (remove f x (card_view g mem) m.shown) (RemovePlanned g m mem f x) m z) → c ≡ Ok g → Known c mem ms m →
       Planning (remove f x) (RemovePlanned g m mem f x) g c mem ms m y z
   remove_planning gives is known = planning _ _ g c mem ms m _ z (λ w. remove_call g mem ms m w _ _) is known gives

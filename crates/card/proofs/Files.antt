@@ -21,7 +21,7 @@ use Rattle.card.proofs.Quiet.{Quiet, ok_quiet, check_quiet, bind_quiet, reading_
 use Rattle.rule.proofs.Steps.{names_true}
 use Rattle.walk.specs.Copies.{front, Holds, LeafIs}
 use Rattle.walk.specs.Still.{Still, Gives, shows}
-use Rattle.walk.specs.declared.leaf.LeafCopy.{LeafCopy}
+use Rattle.walk.specs.declared.leaf_copy.LeafCopy.{LeafCopy}
 use Rattle.walk.proofs.Stepping.{bind_ok, bind_err, check_ok, check_err, kind_ok, kind_err, reading_ok, reading_err}
 use Rattle.card.specs.Calls.{Fills}
 use Rattle.card.specs.Files.{leaf_bytes}

@@ -204,7 +204,7 @@ planning plan P g c mem ms m y k call is known gives =
 
 -- what `commit` says of a plan
 abbrev Carried : CodePlan → Kept → Memory → Model → Answer (Unit {0}) → Kept → Memory → Model → Type 0
-Carried code b mem j r d after n = code.len ≤ 3 → first_outside j.count (puts_in code) ≡ None → Commits (puts_in code) code.memory b mem j r d after n
+Carried code b mem j r d after n = first_outside j.count (puts_in code) ≡ None → Commits (puts_in code) code.memory b mem j r d after n
 
 module _ {D A W : Type 0} (model : D → Model) {plan : Card → Shown → Answer (Plan A)} {P : W → Type 0} {g : CardGeometry} {c : Kept} {mem : Memory} {ms : Marks} {m : Model} {y : Answer W} {z : D} (l : Planning plan P g c mem ms m y (model z)) where
   pub plan_fits : Fitting c m → Fitting c (model z)
@@ -227,14 +227,14 @@ module _ {D A W : Type 0} (model : D → Model) {plan : Card → Shown → Answe
       plan_told = subst (λ (o : Answer W). Gives g o (plan (card_view g mem) m.shown) P m (model z)) (sym h.0) l.gives
 
       -- accepted with this plan, which was then carried out
-      module _ (a : A) (code : CodePlan) (rule : P v → plan (card_view g mem) m.shown ≡ Ok (plan_view a g code)) (few : P v → code.len ≤ 3) where
+      module _ (a : A) (code : CodePlan) (rule : P v → plan (card_view g mem) m.shown ≡ Ok (plan_view a g code)) where
         commits : (d : Kept) (after : Memory) (n : Model) (r : Answer (Unit {0})) → Carried code b mem (model x) r d after n → Commits (puts_in code) code.memory c mem (model z) r d after n
         commits d after n r q =
             let same = ap model h.1 in
             let inside = l.call.inside (plan_view a g code) (rule plan_told.1) (model z).count (omega (arith, plan_told.0.kept.count, l.knows.fits)) in
             subst (λ (o : Kept). Commits (puts_in code) code.memory o mem (model z) r d after n) (h.2 ∙ ap (λ (o : Answer W). kept_by o c) (sym h.0))
             (subst (λ (o : Model). Commits (puts_in code) code.memory b mem o r d after n) same
-            (q (few plan_told.1) (subst (λ (o : Model). first_outside o.count (puts_in code) ≡ None) (sym same) inside)))
+            (q (subst (λ (o : Model). first_outside o.count (puts_in code) ≡ None) (sym same) inside)))
 
         pub plan_broken : {d : Kept} {after : Memory} {n : Model} {e : Refusal} {r : Answer A} → Carried code b mem (model x) (Err e) d after n → r ≡ Err e → Made plan c mem m r d after ms n
         plan_broken {d} {after} {n} {e} {r} q p =

@@ -1,8 +1,6 @@
 -- What the answers of a card's calls stand for.
 use Rattle.std.specs.Prelude.{ℕ}
-use Rattle.base.specs.declared.number.BlockNo.{BlockNo}
 use Rattle.rule.specs.Reading as rule_of_reading
-use Rattle.change.specs.declared.plan.Gained.{Gained}
 use Rattle.card.specs.declared.inner.Status.{Status}
 use Rattle.card.specs.declared.opened.Surveying.{Surveying}
 use Rattle.card.specs.declared.surveyed.Space.{Space}
@@ -16,9 +14,3 @@ surveying_view s = (s.remain, s.highest.0)
 
 abbrev pub space_view : Space → rule_of_reading.Space
 space_view s = record { bodies = s.bodies; slots = s.slots }
-
-abbrev pub block_number : BlockNo → ℕ
-block_number b = b.0
-
-abbrev pub gained_block : Gained → ℕ
-gained_block y = y.block.0

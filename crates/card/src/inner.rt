@@ -13,7 +13,7 @@ use device::Device;
 use layout::geometry::Geometry;
 use power::PowerCut;
 use walk::handle::{find_child, read_handle};
-use walk::leaf::LeafCopy;
+use walk::leaf_copy::LeafCopy;
 use walk::path::{at_component, check_name, check_path, walk_path};
 
 // What a status tells: file or folder, how many leaves, and the folder that it is in.
@@ -37,9 +37,9 @@ fn fill(buffer: &mut [u8], leaf: &LeafCopy) -> usize
     requires { 496 ≤ length buffer.old }
     ensures { (result ≡ length (front leaf.now)) × (buffer.new ≡ front leaf.now ++ drop (length (front leaf.now)) buffer.old) }
 {
-    let used = (leaf.used as usize).min(496);
-    buffer[0..used].copy_from_slice(&leaf.bytes[0..used]);
-    used
+    let bytes = leaf.bytes();
+    buffer[..bytes.len()].copy_from_slice(bytes);
+    bytes.len()
 }
 
 impl<D: Device> Core<D> {
@@ -87,7 +87,7 @@ impl<D: Device> Core<D> {
         check_name(name)?;
         let g = self.ready?;
         let found = find_child(&mut self.device, &g, folder, name);
-        Ok(self.keep(found)?.child)
+        Ok(self.keep(found)?.child.handle)
     }
 
     // Kind, leaf count and parent.

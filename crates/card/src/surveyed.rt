@@ -4,17 +4,18 @@ ghost use Rattle.std.specs.Option.{option_map};
 ghost use Rattle.layout.specs.Format.{back as leaf_line};
 ghost use Rattle.marks.specs.Marks.{with_gained};
 ghost use Rattle.rule.specs.Changing.{synced};
+ghost use Rattle.change.specs.Plans.{gained_block};
 ghost use Rattle.card.specs.Once.{Known-prop};
-ghost use Rattle.card.specs.Valid.{Known};
-ghost use Rattle.card.specs.Views.{block_number, gained_block};
+ghost use Rattle.card.specs.Valid.{Known as IsKnown};
 
 use crate::inner::{Core, Status};
-use base::number::{BlockNo, LeafNo};
+use base::number::LeafNo;
 use base::owner::{Back, Handle, Kind};
 use base::refusal::{PathRefusal, Refusal};
 use change::create::plan_create;
 use change::drop::drop_leaves;
-use change::plan::{Gained, Memory};
+use change::known::Known;
+use change::plan::{Created, Gained, Memory};
 use change::remove::plan_remove;
 use change::shorten::plan_shorten;
 use change::write::plan_write;
@@ -31,7 +32,7 @@ pub struct Surveyed<D: Device> {
     pub(crate) core: Core<D>,
     pub(crate) memory: Memory,
     pub(crate) marks: Marks,
-    ghost known: { Known core.ready memory marks (D.Device.model core.device) } by { Known-prop core.ready memory marks (D.Device.model core.device) },
+    ghost known: { IsKnown core.ready memory marks (D.Device.model core.device) } by { Known-prop core.ready memory marks (D.Device.model core.device) },
 }
 
 // How many bodies and how many slots are free.
@@ -41,25 +42,16 @@ pub struct Space {
     pub slots: u16,
 }
 
-// Marks a body that a file gained, if it gained one.
-fn mark_gained(marks: &mut Marks, body: Option<BlockNo>, back: Back)
-    ensures { marks.new ≡ with_gained marks.old (option_map block_number body) back }
+// Marks the leaf that a file or folder gained, if it gained one.
+fn mark_gained(marks: &mut Marks, gained: Option<Gained>, owner: &Handle)
+    ensures { (k : ℕ) → ((y : Gained) → gained ≡ Some y → y.leaf.0 ≡ k) → marks.new ≡ with_gained marks.old (option_map gained_block gained) (leaf_line owner.now k) }
 {
-    if let Some(at) = body {
-        marks.set_body(at, Some(back));
-    }
-}
-
-// Marks a leaf that a folder gained, if it gained one.
-fn mark_leaf(marks: &mut Marks, gained: Option<Gained>, folder: &Handle)
-    ensures { (k : ℕ) → ((y : Gained) → gained ≡ Some y → y.leaf.0 ≡ k) → marks.new ≡ with_gained marks.old (option_map gained_block gained) (leaf_line folder.now k) }
-{
-    if let Some(y) = gained {
+    if let Some(gain) = gained {
         let back = Back {
-            owner: *folder,
-            leaf: y.leaf,
+            owner: *owner,
+            leaf: gain.leaf,
         };
-        marks.set_body(y.block, Some(back));
+        marks.set_body(gain.block, Some(back));
     }
 }
 
@@ -154,24 +146,22 @@ impl<D: Device> Surveyed<D> {
     {
         check_name(name)?;
         let g = self.core.ready?;
-        let planned = plan_create(
-            &mut self.core.device,
-            &g,
-            &self.memory,
-            &self.marks,
-            kind,
-            folder,
-            name,
-        );
-        let w = self.core.keep(planned)?;
-        self.core.commit(&w.plan, &mut self.memory)?;
+        let known = Known {
+            geometry: g,
+            memory: self.memory,
+            marks: &self.marks,
+        };
+        let planned = plan_create(&mut self.core.device, &known, kind, folder, name);
+        let accepted = self.core.keep(planned)?;
+        self.core.commit(&accepted.plan, &mut self.memory)?;
+        let Created { child, gained } = accepted.change;
         let mark = SlotMark {
-            identity: w.child.identity,
+            identity: child.identity,
             parent: *folder,
         };
-        self.marks.set_slot(w.child.slot, Some(mark));
-        mark_leaf(&mut self.marks, w.gained, folder);
-        Ok(w.child)
+        self.marks.set_slot(child.slot, Some(mark));
+        mark_gained(&mut self.marks, gained, folder);
+        Ok(child)
     }
 
     // A leaf of a file gets these bytes, at most 496: a good leaf below the count, or a new one at the count.
@@ -182,19 +172,15 @@ impl<D: Device> Surveyed<D> {
             return Err(Refusal::BadLength(bytes.len()));
         }
         let g = self.core.ready?;
-        let planned = plan_write(
-            &mut self.core.device,
-            &g,
-            &self.memory,
-            &self.marks,
-            file,
-            leaf,
-            bytes,
-        );
-        let w = self.core.keep(planned)?;
-        self.core.commit(&w.plan, &mut self.memory)?;
-        let back = Back { owner: *file, leaf };
-        mark_gained(&mut self.marks, w.body, back);
+        let known = Known {
+            geometry: g,
+            memory: self.memory,
+            marks: &self.marks,
+        };
+        let planned = plan_write(&mut self.core.device, &known, file, leaf, bytes);
+        let accepted = self.core.keep(planned)?;
+        self.core.commit(&accepted.plan, &mut self.memory)?;
+        mark_gained(&mut self.marks, accepted.change, file);
         Ok(())
     }
 
@@ -203,17 +189,15 @@ impl<D: Device> Surveyed<D> {
         ensures changes { Changes (changing.shorten file.now n.0) (on self.old) result (on self.new) }
     {
         let g = self.core.ready?;
-        let planned = plan_shorten(
-            &mut self.core.device,
-            &g,
-            &self.memory,
-            &self.marks,
-            file,
-            n,
-        );
-        let w = self.core.keep(planned)?;
-        self.core.commit(&w.plan, &mut self.memory)?;
-        drop_leaves(&mut self.marks, file, &w.slot, n.0);
+        let known = Known {
+            geometry: g,
+            memory: self.memory,
+            marks: &self.marks,
+        };
+        let planned = plan_shorten(&mut self.core.device, &known, file, n);
+        let accepted = self.core.keep(planned)?;
+        self.core.commit(&accepted.plan, &mut self.memory)?;
+        drop_leaves(&mut self.marks, &accepted.change, n);
         Ok(())
     }
 
@@ -223,18 +207,16 @@ impl<D: Device> Surveyed<D> {
     {
         check_name(name)?;
         let g = self.core.ready?;
-        let planned = plan_remove(
-            &mut self.core.device,
-            &g,
-            &self.memory,
-            &self.marks,
-            folder,
-            name,
-        );
-        let w = self.core.keep(planned)?;
-        self.core.commit(&w.plan, &mut self.memory)?;
-        drop_leaves(&mut self.marks, &w.child, &w.slot, 0);
-        self.marks.set_slot(w.child.slot, None);
+        let known = Known {
+            geometry: g,
+            memory: self.memory,
+            marks: &self.marks,
+        };
+        let planned = plan_remove(&mut self.core.device, &known, folder, name);
+        let accepted = self.core.keep(planned)?;
+        self.core.commit(&accepted.plan, &mut self.memory)?;
+        drop_leaves(&mut self.marks, &accepted.change, LeafNo(0));
+        self.marks.set_slot(accepted.change.handle.slot, None);
         Ok(())
     }
 

@@ -24,7 +24,7 @@ returns-in_err-keep g c =
     let m = g.D.Device.model c.args.self.now.device in
     let at = find_ready c.args.folder.now c.args.name.now m.shown _ _ c.in_ok-check_name.ensures (ap ready_view c.in_ok-g.was) in
     record {
-      reads = core_kept g.D.Device.model (find c.args.folder.now c.args.name.now) (λ h. h.child) c.find_child-found.ensures c.in_ok-g.was c.args.self.now.fitting (step_quiet (sizes c.in_ok-g.g) (shows c.in_ok-g.g m) c.args.folder.now c.args.name.now)
+      reads = core_kept g.D.Device.model (find c.args.folder.now c.args.name.now) (λ h. h.child.handle) c.find_child-found.ensures c.in_ok-g.was c.args.self.now.fitting (step_quiet (sizes c.in_ok-g.g) (shows c.in_ok-g.g m) c.args.folder.now c.args.name.now)
           (λ a q. at ∙ q.child) (λ e q. at ∙ q) c.in_err-keep.ensures (p.1 ∙ ap Err p.2);
     }
 
@@ -33,6 +33,6 @@ returns g c =
     let m = g.D.Device.model c.args.self.now.device in
     let at = find_ready c.args.folder.now c.args.name.now m.shown _ _ c.in_ok-check_name.ensures (ap ready_view c.in_ok-g.was) in
     record {
-      reads = core_kept g.D.Device.model (find c.args.folder.now c.args.name.now) (λ h. h.child) c.find_child-found.ensures c.in_ok-g.was c.args.self.now.fitting (step_quiet (sizes c.in_ok-g.g) (shows c.in_ok-g.g m) c.args.folder.now c.args.name.now)
+      reads = core_kept g.D.Device.model (find c.args.folder.now c.args.name.now) (λ h. h.child.handle) c.find_child-found.ensures c.in_ok-g.was c.args.self.now.fitting (step_quiet (sizes c.in_ok-g.g) (shows c.in_ok-g.g m) c.args.folder.now c.args.name.now)
           (λ a q. at ∙ q.child) (λ e q. at ∙ q) c.in_ok-keep.ensures refl;
     }

@@ -14,7 +14,7 @@ use Rattle.walk.specs.Still.{shows}
 use Rattle.change.specs.Plans.{card_view, plan_view}
 use Rattle.card_lists.specs.Ready.{ready_view}
 use Rattle.card.specs.Valid.{memory_view}
-use Rattle.card.specs.Views.{gained_block}
+use Rattle.change.specs.Plans.{gained_block}
 use Rattle.card.proofs.Calling.{create_planning}
 use Rattle.card.proofs.Plans.{plan_fits, plan_refused, plan_told, plan_broken, plan_done, plan_marked, changes_early}
 use Rattle.card.proofs.Ready.{create_bad, create_unready}
@@ -42,21 +42,21 @@ pub invariant_of-self : goal.invariant_of-self
 invariant_of-self g c = (plan_fits g.D.Device.model (create_planning c.plan_create-planned.ensures c.in_ok-g.was c.args.self.now.known) c.args.self.now.core.fitting, tt)
 
 pub invariant_of-self-in-Break-branch-3 : goal.invariant_of-self-in-Break-branch-3
-invariant_of-self-in-Break-branch-3 g c = record { known = (plan_refused g.D.Device.model (create_planning c.plan_create-planned.ensures c.in_ok-g.was c.args.self.now.known) c.in_err-w.ensures refl).known }
+invariant_of-self-in-Break-branch-3 g c = record { known = (plan_refused g.D.Device.model (create_planning c.plan_create-planned.ensures c.in_ok-g.was c.args.self.now.known) c.in_err-accepted.ensures refl).known }
 
-pub returns-in_err-w : goal.returns-in_err-w
-returns-in_err-w g c =
-    let p = err_from_is_err_and c.from_residual-in_err-w.result c.from_residual-in_err-w.ensures.1 in
-    record { changes = (plan_refused g.D.Device.model (create_planning c.plan_create-planned.ensures c.in_ok-g.was c.args.self.now.known) c.in_err-w.ensures (p.1 ∙ ap Err p.2)).changes }
+pub returns-in_err-accepted : goal.returns-in_err-accepted
+returns-in_err-accepted g c =
+    let p = err_from_is_err_and c.from_residual-in_err-accepted.result c.from_residual-in_err-accepted.ensures.1 in
+    record { changes = (plan_refused g.D.Device.model (create_planning c.plan_create-planned.ensures c.in_ok-g.was c.args.self.now.known) c.in_err-accepted.ensures (p.1 ∙ ap Err p.2)).changes }
 
 pub invariant_of-self-in-Break-branch-4 : goal.invariant_of-self-in-Break-branch-4
 invariant_of-self-in-Break-branch-4 g c =
-    record { known = (plan_broken g.D.Device.model (create_planning c.plan_create-planned.ensures c.in_ok-g.was c.args.self.now.known) c.in_ok-w.ensures c.in_ok-w.w.child c.in_ok-w.w.plan (λ q. q.rule) (λ q. q.few) c.in_err-commit.ensures refl).known }
+    record { known = (plan_broken g.D.Device.model (create_planning c.plan_create-planned.ensures c.in_ok-g.was c.args.self.now.known) c.in_ok-accepted.ensures c.in_ok-accepted.accepted.change.child c.in_ok-accepted.accepted.plan (λ q. q.rule) c.in_err-commit.ensures refl).known }
 
 pub returns-in_err-commit : goal.returns-in_err-commit
 returns-in_err-commit g c =
     let p = err_from_is_err_and c.from_residual-in_err-commit.result c.from_residual-in_err-commit.ensures.1 in
-    record { changes = (plan_broken g.D.Device.model (create_planning c.plan_create-planned.ensures c.in_ok-g.was c.args.self.now.known) c.in_ok-w.ensures c.in_ok-w.w.child c.in_ok-w.w.plan (λ q. q.rule) (λ q. q.few) c.in_err-commit.ensures (p.1 ∙ ap Err p.2)).changes }
+    record { changes = (plan_broken g.D.Device.model (create_planning c.plan_create-planned.ensures c.in_ok-g.was c.args.self.now.known) c.in_ok-accepted.ensures c.in_ok-accepted.accepted.change.child c.in_ok-accepted.accepted.plan (λ q. q.rule) c.in_err-commit.ensures (p.1 ∙ ap Err p.2)).changes }
 
 pub invariant_of-self-2 : goal.invariant_of-self-2
 invariant_of-self-2 g c =
@@ -66,22 +66,22 @@ invariant_of-self-2 g c =
     let s = sizes c.in_ok-g.g in
     let l = create_planning c.plan_create-planned.ensures c.in_ok-g.was c.args.self.now.known in
     let w = l.knows in
-    let q = (plan_told g.D.Device.model l c.in_ok-w.ensures).1 in
-    let child = c.in_ok-w.w.child in
+    let q = (plan_told g.D.Device.model l c.in_ok-accepted.ensures).1 in
+    let child = c.in_ok-accepted.accepted.change.child in
     let folder = c.args.folder.now in
     let mark = Some (slot_line (new_slot c.args.kind folder child.identity.0)) in
     let slot = with_slot ms child.slot.0 mark in
     let line = back folder (count q.folder) in
     let after = with_gained slot (body_taken s (shows c.in_ok-g.g m) (card_view c.in_ok-g.g mem) (open_place s (shows c.in_ok-g.g m) folder q.folder)) line in
-    let marks : c.mark_leaf.new.marks ≡ after =
-    c.mark_leaf.ensures (count q.folder) q.leaf
-    ∙ ap (λ (z : Marks). with_gained z (option_map gained_block c.in_ok-w.w.gained) line) c.set_slot.ensures
+    let marks : c.mark_gained.new.marks ≡ after =
+    c.mark_gained.ensures (count q.folder) q.leaf
+    ∙ ap (λ (z : Marks). with_gained z (option_map gained_block c.in_ok-accepted.accepted.change.gained) line) c.set_slot.ensures
     ∙ ap (λ (o : Option ℕ). with_gained slot o line) q.body in
     record {
-      known = plan_marked g.D.Device.model l c.in_ok-w.ensures child c.in_ok-w.w.plan (λ q. q.rule) (λ q. q.few) c.in_ok-commit.ensures after marks
-          (create_marks s (card_view c.in_ok-g.g mem) m.shown c.args.kind folder c.args.name.now (plan_view child c.in_ok-g.g c.in_ok-w.w.plan) q.folder ms w.tied q.rule q.at w.marked w.room)
+      known = plan_marked g.D.Device.model l c.in_ok-accepted.ensures child c.in_ok-accepted.accepted.plan (λ q. q.rule) c.in_ok-commit.ensures after marks
+          (create_marks s (card_view c.in_ok-g.g mem) m.shown c.args.kind folder c.args.name.now (plan_view child c.in_ok-g.g c.in_ok-accepted.accepted.plan) q.folder ms w.tied q.rule q.at w.marked w.room)
           ((room_stays s slot ((room_stays s ms w.room).slot child.slot.0 mark)).gained _ _);
     }
 
 pub returns : goal.returns
-returns g c = record { changes = plan_done g.D.Device.model (create_planning c.plan_create-planned.ensures c.in_ok-g.was c.args.self.now.known) c.in_ok-w.ensures c.in_ok-w.w.child c.in_ok-w.w.plan (λ q. q.rule) (λ q. q.few) c.in_ok-commit.ensures }
+returns g c = record { changes = plan_done g.D.Device.model (create_planning c.plan_create-planned.ensures c.in_ok-g.was c.args.self.now.known) c.in_ok-accepted.ensures c.in_ok-accepted.accepted.change.child c.in_ok-accepted.accepted.plan (λ q. q.rule) c.in_ok-commit.ensures }

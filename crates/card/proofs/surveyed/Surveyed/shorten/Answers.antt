@@ -28,21 +28,21 @@ pub invariant_of-self : goal.invariant_of-self
 invariant_of-self g c = (plan_fits g.D.Device.model (shorten_planning c.plan_shorten-planned.ensures c.in_ok-g.was c.args.self.now.known) c.args.self.now.core.fitting, tt)
 
 pub invariant_of-self-in-Break-branch-2 : goal.invariant_of-self-in-Break-branch-2
-invariant_of-self-in-Break-branch-2 g c = record { known = (plan_refused g.D.Device.model (shorten_planning c.plan_shorten-planned.ensures c.in_ok-g.was c.args.self.now.known) c.in_err-w.ensures refl).known }
+invariant_of-self-in-Break-branch-2 g c = record { known = (plan_refused g.D.Device.model (shorten_planning c.plan_shorten-planned.ensures c.in_ok-g.was c.args.self.now.known) c.in_err-accepted.ensures refl).known }
 
-pub returns-in_err-w : goal.returns-in_err-w
-returns-in_err-w g c =
-    let p = err_from_is_err_and c.from_residual-in_err-w.result c.from_residual-in_err-w.ensures.1 in
-    record { changes = (plan_refused g.D.Device.model (shorten_planning c.plan_shorten-planned.ensures c.in_ok-g.was c.args.self.now.known) c.in_err-w.ensures (p.1 ∙ ap Err p.2)).changes }
+pub returns-in_err-accepted : goal.returns-in_err-accepted
+returns-in_err-accepted g c =
+    let p = err_from_is_err_and c.from_residual-in_err-accepted.result c.from_residual-in_err-accepted.ensures.1 in
+    record { changes = (plan_refused g.D.Device.model (shorten_planning c.plan_shorten-planned.ensures c.in_ok-g.was c.args.self.now.known) c.in_err-accepted.ensures (p.1 ∙ ap Err p.2)).changes }
 
 pub invariant_of-self-in-Break-branch-3 : goal.invariant_of-self-in-Break-branch-3
 invariant_of-self-in-Break-branch-3 g c =
-    record { known = (plan_broken g.D.Device.model (shorten_planning c.plan_shorten-planned.ensures c.in_ok-g.was c.args.self.now.known) c.in_ok-w.ensures tt c.in_ok-w.w.plan (λ q. q.rule) (λ q. q.few) c.in_err-commit.ensures refl).known }
+    record { known = (plan_broken g.D.Device.model (shorten_planning c.plan_shorten-planned.ensures c.in_ok-g.was c.args.self.now.known) c.in_ok-accepted.ensures tt c.in_ok-accepted.accepted.plan (λ q. q.rule) c.in_err-commit.ensures refl).known }
 
 pub returns-in_err-commit : goal.returns-in_err-commit
 returns-in_err-commit g c =
     let p = err_from_is_err_and c.from_residual-in_err-commit.result c.from_residual-in_err-commit.ensures.1 in
-    record { changes = (plan_broken g.D.Device.model (shorten_planning c.plan_shorten-planned.ensures c.in_ok-g.was c.args.self.now.known) c.in_ok-w.ensures tt c.in_ok-w.w.plan (λ q. q.rule) (λ q. q.few) c.in_err-commit.ensures (p.1 ∙ ap Err p.2)).changes }
+    record { changes = (plan_broken g.D.Device.model (shorten_planning c.plan_shorten-planned.ensures c.in_ok-g.was c.args.self.now.known) c.in_ok-accepted.ensures tt c.in_ok-accepted.accepted.plan (λ q. q.rule) c.in_err-commit.ensures (p.1 ∙ ap Err p.2)).changes }
 
 pub invariant_of-self-2 : goal.invariant_of-self-2
 invariant_of-self-2 g c =
@@ -52,14 +52,14 @@ invariant_of-self-2 g c =
     let s = sizes c.in_ok-g.g in
     let l = shorten_planning c.plan_shorten-planned.ensures c.in_ok-g.was c.args.self.now.known in
     let w = l.knows in
-    let q = (plan_told g.D.Device.model l c.in_ok-w.ensures).1 in
-    let slot = copied c.in_ok-w.w.slot in
+    let q = (plan_told g.D.Device.model l c.in_ok-accepted.ensures).1 in
+    let slot = copied c.in_ok-accepted.accepted.change.slot in
     let leaves = from c.args.n.0 (count slot - c.args.n.0) in
     record {
-      known = plan_marked g.D.Device.model l c.in_ok-w.ensures tt c.in_ok-w.w.plan (λ q. q.rule) (λ q. q.few) c.in_ok-commit.ensures (without ms c.args.file.now slot leaves) c.drop_leaves.ensures
-          (shorten_marks s (card_view c.in_ok-g.g mem) m.shown c.args.file.now c.args.n.0 (plan_view tt c.in_ok-g.g c.in_ok-w.w.plan) slot ms w.tied q.rule q.at w.marked w.room)
+      known = plan_marked g.D.Device.model l c.in_ok-accepted.ensures tt c.in_ok-accepted.accepted.plan (λ q. q.rule) c.in_ok-commit.ensures (without ms c.args.file.now slot leaves) (c.drop_leaves.ensures ∙ ap (λ h. without ms h slot leaves) q.file)
+          (shorten_marks s (card_view c.in_ok-g.g mem) m.shown c.args.file.now c.args.n.0 (plan_view tt c.in_ok-g.g c.in_ok-accepted.accepted.plan) slot ms w.tied q.rule q.at w.marked w.room)
           ((room_stays s ms w.room).leaves c.args.file.now slot leaves);
     }
 
 pub returns : goal.returns
-returns g c = record { changes = plan_done g.D.Device.model (shorten_planning c.plan_shorten-planned.ensures c.in_ok-g.was c.args.self.now.known) c.in_ok-w.ensures tt c.in_ok-w.w.plan (λ q. q.rule) (λ q. q.few) c.in_ok-commit.ensures }
+returns g c = record { changes = plan_done g.D.Device.model (shorten_planning c.plan_shorten-planned.ensures c.in_ok-g.was c.args.self.now.known) c.in_ok-accepted.ensures tt c.in_ok-accepted.accepted.plan (λ q. q.rule) c.in_ok-commit.ensures }
