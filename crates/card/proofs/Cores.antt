@@ -1,8 +1,7 @@
 -- A reading call of a card, by what the walk answers.
-use Rattle.std.proofs.Common.{◌≡◌, ℕ, cond, eqb, Ok, Err, Result, sym, refl, ap, ◌∙◌, subst, inl, inr, arith}
+use Rattle.std.proofs.Common.{◌≡◌, ℕ, cond, eqb, Ok, Err, sym, refl, ap, ◌∙◌, subst, inl, inr, arith}
 use Rattle.std.proofs.lemmas.Bool.{cond-false, ne_eqb}
 use Rattle.base.specs.Refusals.{number_of}
-use Rattle.base.specs.declared.number.BlockNo.{BlockNo}
 use Rattle.base.specs.declared.owner.Handle.{Handle}
 use Rattle.base.specs.declared.refusal.Refusal.{Refusal}
 use Rattle.base.specs.declared.refusal.Refusal.TheVariants.{PowerGone}
@@ -12,40 +11,47 @@ use Rattle.device.specs.declared.fault.Fault.{Fault}
 use Rattle.device.specs.declared.fault.Fault.TheVariants.{PowerGone as Gone, NoSuchBlock}
 use Rattle.layout.specs.Format.{Geometry, Name, Slot}
 use Rattle.layout.specs.Sizes.{sizes}
+use Rattle.layout.proofs.Numbers.{length_numbers}
 use Rattle.layout.specs.declared.geometry.Geometry.{Geometry as CardGeometry}
 use Rattle.rule.specs.Agree.{Shown, seen, count}
 use Rattle.rule.specs.Card.{Ready, opening, surveyed}
 use Rattle.rule.specs.Card.{opened as rule_opened}
 use Rattle.rule.specs.Check.{Answer}
 use Rattle.rule.specs.Reading.{named, step, find, fits, status}
-use Rattle.history.specs.Events.{Reads, opened}
-use Rattle.history.specs.Events.{surveyed as on_survey}
-use Rattle.marks.specs.declared.mark.Marks.{Marks}
-use Rattle.change.specs.declared.plan.Memory.{Memory}
-use Rattle.walk.specs.Still.{Failed, Refused}
+use Rattle.walk.specs.Copies.{copied}
+use Rattle.walk.specs.Still.{Failed, Gives}
+use Rattle.walk.specs.declared.slot.SlotCopy.{SlotCopy}
 use Rattle.walk.proofs.Stills.{still}
 use Rattle.walk.proofs.Stepping.{bind_ok, bind_err}
-use Rattle.card.specs.Views.{Kept, ready_view, Fitting}
-use Rattle.card.specs.Calls.{CoreReads}
-use Rattle.card.specs.Progress.{Progress, so_far}
-use Rattle.card.specs.Valid.{Sees, Seen, Known}
+use Rattle.card_lists.specs.Ready.{Kept, ready_view, Fitting}
+use Rattle.card.specs.Calls.{CoreReads, kept_by}
+use Rattle.card.specs.Progress.{so_far}
+use Rattle.card.specs.Valid.{Sees, Seen}
+use Rattle.card.specs.declared.progress.Progress.{Progress}
 use Rattle.card.proofs.Progresses.{learned_moved}
-use Rattle.card.proofs.Plans.{view, state, still_known, gone_known}
 use Rattle.card.proofs.Quiet.{Quiet}
 
-module _ {A B : Type 0} (rule : Ready → Shown → Answer A) (g : CardGeometry) (x : Answer B) (c : Kept) (m : Model) (good : c ≡ Ok g) where
-  -- a refusal of the walk, after `refuse`
-  pub core_refused : (d : Kept) (k n : Model) (e f : Refusal) → Fitting c m → (x ≡ Err e → rule (ready_view c) m.shown ≡ Err e) → Quiet x →
-      f ≡ e → n ≡ k → d ≡ cond (eqb (number_of e) 1) (Err e) c → Refused g x m k e → CoreReads PowerGone rule c m (Err f) d n
-  core_refused d k n e f fit r q p s t h = subst (λ (z : Model). CoreReads PowerGone rule c m (Err f) d z) (sym s) (subst (λ (z : Refusal). CoreReads PowerGone rule c m (Err z) d k) (sym p) (go h))
-    where
-      fault : (w : Fault) → e ≡ refusal_of w → Failed g m k w → CoreReads PowerGone rule c m (Err e) d k
-      fault (Gone b) is h = inr (b, g, good, ap Err is, h, t ∙ ap (λ (z : Refusal). cond (eqb (number_of z) 1) (Err z) c) is)
-      fault (NoSuchBlock b) is h = let l = subst (λ (z : Kept). Fitting z m) good fit in absurd (omega (arith, l, h.1))
+-- what the walk's answer a is made to
+abbrev pub mapped : {A C : Type 0} → (A → C) → Answer A → Answer C
+mapped f (Ok a) = Ok (f a)
+mapped f (Err e) = Err e
 
-      go : Refused g x m k e → CoreReads PowerGone rule c m (Err e) d k
-      go (inl h) = inl (h.0, sym (r h.1), t ∙ cond-false (eqb (number_of e) 1) (Err e) c (ne_eqb (number_of e) 1 (q e h.1)))
-      go (inr h) = fault h.0 h.1 h.2
+module _ {D A B C : Type 0} (model : D → Model) (rule : Ready → Shown → Answer C) (f : A → C) {g : CardGeometry} {x : Answer B} {P : A → Type 0} {c : Kept} {m : Model} {z : D} {y : Answer A} where
+  -- an answer of the walk, as `keep` hands it on: the card has b and the device w then
+  pub core_kept : Gives g y x P m (model z) → c ≡ Ok g → Fitting c m → Quiet x → ((a : A) → P a → rule (ready_view c) m.shown ≡ Ok (f a)) → ((e : Refusal) → x ≡ Err e → rule (ready_view c) m.shown ≡ Err e) →
+      {o : Answer A} {r : Answer C} {b : Kept} {w : D} → (o ≡ y) × (w ≡ z) × (b ≡ kept_by y c) → r ≡ mapped f o → CoreReads PowerGone rule c m r b (model w)
+  core_kept q good fit quiet told refused {o} {r} {b} {w} h p =
+      subst (λ (i : Answer C). CoreReads PowerGone rule c m i b (model w)) (sym (p ∙ ap (mapped f) h.0))
+      (subst (λ (i : D). CoreReads PowerGone rule c m (mapped f y) b (model i)) (sym h.1) (subst (λ (i : Kept). CoreReads PowerGone rule c m (mapped f y) i (model z)) (sym h.2) (go y q)))
+    where
+      fault : (e : Refusal) (i : Fault) → e ≡ refusal_of i → Failed g m (model z) i → CoreReads PowerGone rule c m (Err e) (kept_by {A = A} (Err e) c) (model z)
+      fault e (Gone i) is h = inr (i, g, good, ap Err is, h, ap (λ (j : Refusal). cond (eqb (number_of j) 1) (Err j) c) is)
+      fault e (NoSuchBlock i) is h = let l = subst (λ (j : Kept). Fitting j m) good fit in absurd (omega (arith, l, h.1))
+
+      go : (y : Answer A) → Gives g y x P m (model z) → CoreReads PowerGone rule c m (mapped f y) (kept_by y c) (model z)
+      go (Ok a) h = inl (h.0, sym (told a h.1), refl)
+      go (Err e) (inl h) = inl (h.0, sym (refused e h.1), cond-false (eqb (number_of e) 1) (Err e) c (ne_eqb (number_of e) 1 (quiet e h.1)))
+      go (Err e) (inr h) = fault e h.0 h.1 h.2
 
 -- refused before the device was called
 pub core_exit : {A : Type 0} (rule : Ready → Shown → Answer A) (c : Kept) (m : Model) (r : Answer A) (d e : Refusal) → r ≡ Err d → d ≡ e → rule (ready_view c) m.shown ≡ Err e → CoreReads PowerGone rule c m r c m
@@ -81,35 +87,10 @@ module _ (h : Handle) (shown : Shown) where
   unfolding status
   status_of x g s r q = bind_ok _ _ g r ∙ bind_ok _ _ s q
 
--- ---- on a card only opened
-
-module _ {A E : Type 0} (met : BlockNo → E) (rule : Ready → Shown → Result A E) (c : Kept) (m : Model) (r : Result A E) (d : Kept) (n : Model) where
-  pub still_fitting : CoreReads met rule c m r d n → Fitting c m → Fitting d n
-  still_fitting (inl h) fit = subst (λ (z : Kept). Fitting z n) (sym h.2) (fits_on c h.0.kept.count fit)
-    where
-      fits_on : (c : Kept) → n.count ≡ m.count → Fitting c m → Fitting c n
-      fits_on (Ok g) e f = omega (arith, e, f)
-      fits_on (Err x) e f = tt
-  still_fitting (inr h) fit = subst (λ (z : Kept). Fitting z n) (sym h.5) tt
-
-  pub opened_reads : (next highest : ℕ) → CoreReads met rule c m r d n →
-      Reads met rule (record { device = m; card = opened (record { ready = ready_view c; next = next; highest = highest }) }) r (record { device = n; card = opened (record { ready = ready_view d; next = next; highest = highest }) })
-  opened_reads next highest (inl h) = record {
-    ready = ready_view c;
-    has = refl;
-    turn = inl (h.1, record { kept = h.0.kept; power = h.0.power; card = ap (λ (k : Kept). opened (record { ready = ready_view k; next = next; highest = highest })) h.2 });
-  }
-  opened_reads next highest (inr h) = record {
-    ready = ready_view c;
-    has = refl;
-    turn = inr (h.0, (sizes h.1, ap ready_view h.2), h.3, record { lost = h.4; card = ap (λ (k : Kept). opened (record { ready = ready_view k; next = next; highest = highest })) h.5 });
-  }
+  pub status_told : (x : Ready) (g : Geometry) (s : SlotCopy) → x ≡ Ok g → fits g (seen g shown) h ≡ Ok (copied s) → status h x shown ≡ Ok (record { kind = s.kind; count = s.count; parent = s.parent })
+  status_told x g s r q = status_of x g (copied s) r q ∙ ap (λ (n : ℕ). Ok (record { kind = s.kind; count = n; parent = s.parent })) (length_numbers s.count s.numbers)
 
 -- ---- what an opened card has learned stays true
-
-pub seen_fits : (c : Kept) (p : Progress) (m : Model) → Seen c p m → Fitting c m
-seen_fits (Ok g) p m w = w.fits
-seen_fits (Err e) p m w = tt
 
 pub still_sees : (g : CardGeometry) (p : Progress) (m k : Model) → k.count ≡ m.count → k.shown ≡ m.shown → Sees g p m → Sees g p k
 still_sees g p m k count shown w = record {
@@ -121,35 +102,3 @@ still_sees g p m k count shown w = record {
 
 pub gone_seen : (d : Kept) (e : Refusal) (p : Progress) (m : Model) → d ≡ Err e → Seen d p m
 gone_seen d e p m q = subst (λ (z : Kept). Seen z p m) (sym q) tt
-
-module _ {A E : Type 0} (met : BlockNo → E) (rule : Ready → Shown → Result A E) (c : Kept) (m : Model) (r : Result A E) (d : Kept) (n : Model) where
-  pub still_seen : CoreReads met rule c m r d n → (p : Progress) → Seen c p m → Seen d p n
-  still_seen (inl h) p see = subst (λ (z : Kept). Seen z p n) (sym h.2) (go c see)
-    where
-      go : (c : Kept) → Seen c p m → Seen c p n
-      go (Ok g) w = still_sees g p m n h.0.kept.count h.0.kept.shown w
-      go (Err x) w = tt
-  still_seen (inr h) p see = gone_seen d (PowerGone h.0) p n h.5
-
--- ---- the same on a surveyed card
-
-pub known_fits : (c : Kept) (mem : Memory) (ms : Marks) (m : Model) → Known c mem ms m → Fitting c m
-known_fits (Ok g) mem ms m w = w.fits
-known_fits (Err e) mem ms m w = tt
-
-module _ {A E : Type 0} (met : BlockNo → E) (rule : Ready → Shown → Result A E) (c : Kept) (m : Model) (r : Result A E) (d : Kept) (n : Model) (mem : Memory) where
-  pub surveyed_reads : CoreReads met rule c m r d n → Reads met rule (state c mem m) r (state d mem n)
-  surveyed_reads (inl h) = record {
-    ready = ready_view c;
-    has = refl;
-    turn = inl (h.1, record { kept = h.0.kept; power = h.0.power; card = ap (λ (k : Kept). on_survey (view k mem)) h.2 });
-  }
-  surveyed_reads (inr h) = record {
-    ready = ready_view c;
-    has = refl;
-    turn = inr (h.0, (sizes h.1, ap ready_view h.2), h.3, record { lost = h.4; card = ap (λ (k : Kept). on_survey (view k mem)) h.5 });
-  }
-
-  pub reads_known : (ms : Marks) → CoreReads met rule c m r d n → Known c mem ms m → Known d mem ms n
-  reads_known ms (inl h) w = subst (λ (z : Kept). Known z mem ms n) (sym h.2) (still_known c mem ms m n h.0.kept.count h.0.kept.shown w)
-  reads_known ms (inr h) w = gone_known d (PowerGone h.0) mem ms n h.5

@@ -1,14 +1,17 @@
 -- Reading a leaf, one check after another.
-use Rattle.std.proofs.Common.{◌≡◌, ℕ, ◌-◌, ◌<◌, ◌≤◌, min, true, ltb, leb, List, ◌++◌, length, take, drop, Some, None, Ok, Err, Option, Result, sym, refl, ap, ◌∙◌, subst, inl, inr, arith}
-use Rattle.std.proofs.lemmas.List.{length-take, take_all}
-use Rattle.std.proofs.lemmas.Bool.{and_parts, lt-ltb, le-ltb, le-leb, lt-leb, cases_lt}
+use Rattle.std.proofs.Common.{◌≡◌, ℕ, ◌<◌, ◌≤◌, true, ltb, leb, List, Some, None, Ok, Err, Option, Result, sym, refl, ap, ◌∙◌, subst, inl, inr, arith}
+use Rattle.std.specs.Option.{ok_or}
+use Rattle.std.proofs.lemmas.Bool.{and_parts, lt-ltb, le-ltb, le-leb, lt-leb}
 use Rattle.base.specs.declared.number.BlockNo.{BlockNo}
 use Rattle.base.specs.declared.owner.Kind.{Kind}
 use Rattle.base.specs.declared.owner.Kind.TheVariants.{File, Folder}
 use Rattle.base.specs.declared.owner.Handle.{Handle}
 use Rattle.base.specs.declared.refusal.Refusal.{Refusal}
 use Rattle.base.specs.declared.refusal.Refusal.TheVariants.{NoSuchLeaf, LeafNotGood, BadLength}
+use Rattle.device.specs.Model.{Model}
 use Rattle.layout.specs.Format.{Geometry, Slot, back}
+use Rattle.layout.specs.Sizes.{sizes}
+use Rattle.layout.specs.declared.geometry.Geometry.{Geometry as CardGeometry}
 use Rattle.rule.specs.Agree.{Shown, View, seen, count, number, good, names, same_kind}
 use Rattle.rule.specs.Card.{Ready, block}
 use Rattle.rule.specs.Check.{Answer}
@@ -17,7 +20,8 @@ use Rattle.rule.specs.Reading.{fits, kind_is, reading, bytes_in, read}
 use Rattle.card.proofs.Quiet.{Quiet, ok_quiet, check_quiet, bind_quiet, reading_quiet}
 use Rattle.rule.proofs.Steps.{names_true}
 use Rattle.walk.specs.Copies.{front, Holds, LeafIs}
-use Rattle.walk.specs.declared.leaf.LeafCopy.{LeafCopy}
+use Rattle.walk.specs.Still.{Still, Gives, shows}
+use Rattle.walk.specs.declared.leaf_copy.LeafCopy.{LeafCopy}
 use Rattle.walk.proofs.Stepping.{bind_ok, bind_err, check_ok, check_err, kind_ok, kind_err, reading_ok, reading_err}
 use Rattle.card.specs.Calls.{Fills}
 use Rattle.card.specs.Files.{leaf_bytes}
@@ -69,6 +73,15 @@ module _ (g : Geometry) (v : View) (h : Handle) (k : ℕ) where
           go (inl (z, file, at)) = ap bytes_in at ∙ sym (subst (Holds x) at y.1)
           go (inr (es, folder, at)) = no_kind (sym (reading_file g v h r is) ∙ folder)
 
+-- the copy of a leaf, if it is good
+pub leaf_gives : (g : CardGeometry) (m n : Model) (h : Handle) (k : ℕ) (r : Slot) → reading (sizes g) (shows g m) File h ≡ Ok r → k < count r → (o : Option LeafCopy) (b : BlockNo) (a : Answer LeafCopy) → a ≡ ok_or o (LeafNotGood b) → b.0 ≡ number r k →
+    LeafIs (shows g m) h r k o → Still m n → Gives g a (leaf_bytes (sizes g) (shows g m) h k) (λ l. leaf_bytes (sizes g) (shows g m) h k ≡ Ok (front l)) m n
+leaf_gives g m n h k r is l o b a e at w s = subst (λ (z : Answer LeafCopy). Gives g z (leaf_bytes (sizes g) (shows g m) h k) (λ l. leaf_bytes (sizes g) (shows g m) h k ≡ Ok (front l)) m n) (sym e) (go o w)
+  where
+    go : (o : Option LeafCopy) → LeafIs (shows g m) h r k o → Gives g (ok_or o (LeafNotGood b)) (leaf_bytes (sizes g) (shows g m) h k) (λ l. leaf_bytes (sizes g) (shows g m) h k ≡ Ok (front l)) m n
+    go (Some x) w = (s, bytes_good (sizes g) (shows g m) h k r is l (Some x) x refl w)
+    go None w = inl (s, bytes_bad (sizes g) (shows g m) h k r is l None b refl w at)
+
 -- ---- the whole call
 
 module _ (h : Handle) (k room : ℕ) (shown : Shown) where
@@ -88,19 +101,6 @@ module _ (h : Handle) (k room : ℕ) (shown : Shown) where
 pub leaf_quiet : (g : Geometry) (v : View) (h : Handle) (k : ℕ) → Quiet (leaf_bytes g v h k)
 leaf_quiet g v h k =
     bind_quiet _ _ (reading_quiet g v File h) (λ r. bind_quiet _ _ (check_quiet _ (NoSuchLeaf (record { 0 = k })) (λ n. omega arith)) (λ u. bind_quiet _ _ (check_quiet _ (LeafNotGood (block (number r k))) (λ n. omega arith)) (λ w. ok_quiet _)))
-
--- the front of a buffer, as the code fills it
-pub filled : (l : LeafCopy) (z : List ℕ) (used : ℕ) (x : List ℕ) → length l.bytes ≡ 496 → used ≡ min l.used 496 → x ≡ take (used - 0) l.bytes → (used ≡ length (front l)) × (x ++ drop (used - 0) z ≡ front l ++ drop (length (front l)) z)
-filled l z used x len u e =
-    let n : used ≡ length (front l) = u ∙ ap (min l.used) (sym len) ∙ sym (length-take l.used l.bytes) in
-    let same : x ≡ front l = e ∙ go in
-    (n, ap (λ (y : List ℕ). y ++ drop (used - 0) z) same ∙ ap (λ (i : ℕ). front l ++ drop i z) (omega (arith, n)))
-  where
-    go : take (used - 0) l.bytes ≡ front l
-    go = elim (cases_lt l.used 496) [
-      | inl low ↦ ap (λ (i : ℕ). take i l.bytes) (omega (arith, u, low))
-      | inr high ↦ ap (λ (i : ℕ). take i l.bytes) (omega (arith, u, high, len)) ∙ take_all (length l.bytes) l.bytes (omega arith) ∙ sym (take_all l.used l.bytes (omega (arith, len, high)))
-    ]
 
 pub fills_exit : (r : Result ℕ Refusal) (z : List ℕ) (d : Refusal) → r ≡ Err d → Fills (Err d) r z z
 fills_exit r z d p = subst (λ (x : Result ℕ Refusal). Fills (Err d) x z z) (sym p) (refl, refl)

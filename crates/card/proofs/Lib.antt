@@ -1,3 +1,4 @@
+pub mod Counts
 pub mod Quiet
 pub mod Cores
 pub mod Opens
@@ -5,6 +6,7 @@ pub mod Files
 pub mod Walks
 pub mod Insides
 pub mod Plans
+pub mod Calling
 pub mod Progresses
 pub mod Surveys
 pub mod Ready

@@ -1,27 +1,23 @@
 -- Opening, one check after another.
-use Rattle.std.proofs.Common.{◌≡◌, ℕ, ◌+◌, ◌<◌, ◌≤◌, Bool, true, false, ◌&&◌, ltb, leb, Some, None, Ok, Err, Option, sym, refl, ap, ◌∙◌, inl, inr, arith}
-use Rattle.std.specs.Option.{option_map}
+use Rattle.std.proofs.Common.{◌≡◌, ℕ, ◌+◌, ◌<◌, ◌≤◌, Bool, true, false, ◌&&◌, ltb, leb, Some, None, Ok, Err, Option, sym, ap, ◌∙◌, subst, inl, inr, arith}
+use Rattle.std.specs.Prelude.{MatchOption}
+use Rattle.std.specs.Option.{option_map, ok_or}
 use Rattle.std.proofs.lemmas.Bool.{and_parts, cond-true, leb-true, le-leb, lt-leb, lt-ltb, le-ltb}
 use Rattle.base.specs.declared.refusal.Refusal.{Refusal}
 use Rattle.base.specs.declared.refusal.Refusal.TheVariants.{BadCard, SmallDevice}
 use Rattle.device.specs.Model.{Model, Lost, Block}
 use Rattle.layout.specs.Format.{Geometry, Slot, cover, ill_formed, cover_of, in_limits}
 use Rattle.rule.specs.Agree.{Shown, View, seen, slot_at, slot_in, some_is}
-use Rattle.rule.specs.Card.{Ready, block, is_root, geometry_in, opening, surveyed}
+use Rattle.rule.specs.Card.{Ready, block, is_root, geometry_in, opening}
 use Rattle.walk.specs.Copies.{copied}
-use Rattle.walk.specs.Still.{Still, shows}
+use Rattle.walk.specs.Still.{Still}
 use Rattle.walk.specs.declared.slot.SlotCopy.{SlotCopy}
 use Rattle.walk.proofs.Stills.{still_then}
 use Rattle.walk.proofs.Stepping.{bind_ok, bind_err, check_ok, check_err, demand_ok, demand_err}
-use Rattle.history.specs.Events.{Phase, Opens, closed, opened}
-use Rattle.card.specs.Views.{Kept, ready_view, Fitting}
+use Rattle.card_lists.specs.Ready.{Kept}
 use Rattle.layout.specs.Sizes.{sizes}
-use Rattle.moves.proofs.Lands.{limits_of}
-use Rattle.survey.proofs.Begins.{apart_seen}
-use Rattle.survey.specs.Survey.{Apart, Sofar}
-use Rattle.survey.specs.declared.survey.Survey.{Survey}
+use Rattle.layout.specs.declared.geometry.Geometry.{Geometry as CardGeometry}
 use Rattle.card.specs.Opening.{rooted, sized, Opening}
-use Rattle.card.specs.Valid.{Seen}
 
 module _ (n : ℕ) (shown : Shown) (g : Geometry) where
   pub sized_small : n < g.blocks → sized n shown g ≡ Err (SmallDevice g.blocks)
@@ -63,6 +59,22 @@ module _ (g : Geometry) (v : View) (fine : in_limits g.blocks g.slots ≡ true) 
   pub root_none : o ≡ None → is_root (v 1) ≡ false
   root_none e = ap (λ (x : Option Slot). some_is x rooted) (first_slot ∙ ap (option_map copied) e)
 
+-- what the cover tells, as the parser has it
+module _ (z : Block) (o : Option CardGeometry) (e : Refusal) (told : MatchOption o (cover_of z ≡ ill_formed) (λ g. cover_of z ≡ cover (sizes g))) where
+  pub cover_told : (g : CardGeometry) → Ok g ≡ ok_or o e → cover_of z ≡ cover (sizes g)
+  cover_told g q = go o told q
+    where
+      go : (o : Option CardGeometry) → MatchOption o (cover_of z ≡ ill_formed) (λ g. cover_of z ≡ cover (sizes g)) → Ok g ≡ ok_or o e → cover_of z ≡ cover (sizes g)
+      go (Some h) t q = let same : h ≡ g = cc in t ∙ ap (λ (i : CardGeometry). cover (sizes i)) same
+      go None t q = let clash : ◌≡◌ {A = ℕ} 0 1 = cc in absurd (omega arith)
+
+  pub cover_missed : (d : Refusal) → Err d ≡ ok_or o e → (cover_of z ≡ ill_formed) × (d ≡ e)
+  cover_missed d q = go o told q
+    where
+      go : (o : Option CardGeometry) → MatchOption o (cover_of z ≡ ill_formed) (λ g. cover_of z ≡ cover (sizes g)) → Err d ≡ ok_or o e → (cover_of z ≡ ill_formed) × (d ≡ e)
+      go (Some h) t q = let clash : ◌≡◌ {A = ℕ} 0 1 = cc in absurd (omega arith)
+      go None t q = let same : d ≡ e = cc in (t, same)
+
 lost_then : (m k n : Model) → Still m k → Lost k n → Lost m n
 lost_then m k n s h = record {
   kept = record { count = h.kept.count ∙ s.kept.count; shown = h.kept.shown ∙ s.kept.shown; stands = λ i x q. s.kept.stands i x (h.kept.stands i x q) };
@@ -75,40 +87,9 @@ opening_then (Ok g) x y m k n s e h = (still_then m k n s h.0, sym e ∙ h.1, om
 opening_then (Err d) x y m k n s e (inl h) = inl (still_then m k n s h.0, sym e ∙ h.1)
 opening_then (Err d) x y m k n s e (inr h) = inr (h.0, h.1, lost_then m k n s h.2)
 
+pub opening_refused : (r : Kept) (x : Ready) (m n : Model) (e : Refusal) → r ≡ Err e → Still m n → x ≡ Err e → Opening r x m n
+opening_refused r x m n e is s q = subst (λ (z : Kept). Opening z x m n) (sym is) (inl (s, q))
+
 pub sized_then : (m k : Model) (g : Geometry) (z : Block) → Still m k → 0 < m.count → z ≡ m.shown 0 → cover_of z ≡ cover g → sized k.count k.shown g ≡ opening m.count m.shown
 sized_then m k g z s l e q =
     ap (λ (n : ℕ). sized n k.shown g) s.kept.count ∙ ap (λ (f : Shown). sized m.count f g) s.kept.shown ∙ sym (opening_cover m.count m.shown g l z e q)
-
--- ---- a card just opened
-
-pub open_valid : (r : Kept) (m n : Model) (t : Survey) → Opening r (opening m.count m.shown) m n → ((g : Geometry) (v : View) → Apart g v → Sofar g v 1 t) → Seen r (record { next = 1; highest = record { 0 = 0 }; survey = t }) n
-open_valid (Err e) m n t h s = tt
-open_valid (Ok g) m n t h s =
-    let k = h.0.kept in
-    let opens : opening n.count n.shown ≡ Ok (sizes g) = ap (λ (i : ℕ). opening i n.shown) k.count ∙ ap (opening m.count) k.shown ∙ h.1 in
-    record {
-      fits = omega (arith, k.count, h.2);
-      opens = opens;
-      learned = record {
-        low = omega arith;
-        high = (let w = (limits_of (sizes g) g.ok).bodies in omega arith);
-        sofar = s (sizes g) (shows g n) (apart_seen (sizes g) n.shown);
-        whole = λ b l q. absurd (omega arith);
-      };
-      agrees = ap (λ (z : Ready). surveyed (record { ready = z; next = 1; highest = 0 }) n.shown) (sym opens);
-    }
-
-pub open_opens : (r : Kept) (m n : Model) → Opening r (opening m.count m.shown) m n → Opens (record { device = m; card = closed }) (record { device = n; card = opened (record { ready = ready_view r; next = 1; highest = 0 }) })
-open_opens r m n = go r
-  where
-    at : Ready → Phase
-    at z = opened (record { ready = z; next = 1; highest = 0 })
-
-    go : (r : Kept) → Opening r (opening m.count m.shown) m n → Opens (record { device = m; card = closed }) (record { device = n; card = at (ready_view r) })
-    go (Ok g) h = record { card = refl; turn = inl (record { kept = h.0.kept; power = h.0.power; card = ap at (sym h.1) }) }
-    go (Err e) (inl h) = record { card = refl; turn = inl (record { kept = h.0.kept; power = h.0.power; card = ap at (sym h.1) }) }
-    go (Err e) (inr h) = record { card = refl; turn = inr (h.0, record { lost = h.2; card = ap (λ (z : Refusal). at (Err z)) h.1 }) }
-
-pub open_fits : (r : Kept) (m n : Model) (x : Ready) → Opening r x m n → Fitting r n
-open_fits (Ok g) m n x h = omega (arith, h.0.kept.count, h.2)
-open_fits (Err e) m n x h = tt

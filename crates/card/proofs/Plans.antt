@@ -6,7 +6,7 @@ use Rattle.base.specs.declared.number.BlockNo.{BlockNo}
 use Rattle.base.specs.declared.refusal.Refusal.{Refusal}
 use Rattle.base.specs.declared.refusal.Refusal.TheVariants.{PowerGone}
 use Rattle.device.specs.Answers.{refusal_of}
-use Rattle.device.specs.Effect.{Outcome, accepted, broken, Power, Shows, puts, Altered, first_outside, WriteAllFault}
+use Rattle.device.specs.Effect.{Outcome, accepted, broken, Power, Shows, puts, Altered, first_outside}
 use Rattle.device.specs.Model.{Model, Block, Lost}
 use Rattle.device.specs.declared.fault.Fault.{Fault}
 use Rattle.device.specs.declared.fault.Fault.TheVariants.{PowerGone as Met, NoSuchBlock}
@@ -21,14 +21,17 @@ use Rattle.rule.specs.Agree.{Shown, seen}
 use Rattle.rule.specs.Card.{Card, Plan}
 use Rattle.rule.specs.Check.{Answer}
 use Rattle.history.specs.Events.{State, surveyed, Changes, ByPlan}
-use Rattle.walk.specs.Still.{Still, Failed, Refused}
+use Rattle.walk.specs.Still.{Still, Failed, Refused, Gives}
 use Rattle.walk.proofs.Stills.{still}
 use Rattle.moves.proofs.Lands.{rooted}
-use Rattle.change.specs.Plans.{card_view, Grounded}
+use Rattle.change.specs.Plans.{card_view, plan_view, puts_in, Grounded}
 use Rattle.change.specs.declared.plan.Memory.{Memory}
-use Rattle.card.specs.Commits.{Puts, Commits}
-use Rattle.card.specs.Valid.{Knows, Known}
-use Rattle.card.specs.Views.{Kept, ready_view}
+use Rattle.change.specs.declared.plan.Plan.{Plan as CodePlan}
+use Rattle.card.specs.Commits.{Commits}
+use Rattle.card_lists.specs.Ready.{Kept, Fitting}
+use Rattle.card.specs.Calls.{kept_by}
+use Rattle.card.specs.Valid.{Knows, Known, memory_view, surveyed_state}
+use Rattle.card.proofs.Counts.{fits_moved, gives_count}
 use Rattle.card.proofs.Quiet.{Quiet}
 
 -- ---- reads, then writes
@@ -59,69 +62,63 @@ lost_altered ws m k l = record {
 
 -- ---- the card
 
-abbrev pub view : Kept → Memory → Card
-view c mem = record { ready = ready_view c; highest = mem.highest.0; next_slot = mem.next_slot; next_body = mem.next_body }
-
-abbrev pub state : Kept → Memory → Model → State
-state c mem m = record { device = m; card = surveyed (view c mem) }
-
 module _ {A : Type 0} (plan : Card → Shown → Answer (Plan A)) where
   -- refused before the device was called
-  pub changes_early : (c : Kept) (mem : Memory) (m : Model) (r : Answer A) (d e : Refusal) → r ≡ Err d → d ≡ e → plan (view c mem) m.shown ≡ Err e → Changes plan (state c mem m) r (state c mem m)
+  pub changes_early : (c : Kept) (mem : Memory) (m : Model) (r : Answer A) (d e : Refusal) → r ≡ Err d → d ≡ e → plan (memory_view c mem) m.shown ≡ Err e → Changes plan (surveyed_state c mem m) r (surveyed_state c mem m)
   changes_early c mem m r d e p q h = record {
-    memory = view c mem;
+    memory = memory_view c mem;
     card = refl;
-    turn = subst (λ (z : Answer (Plan A)). ByPlan z (view c mem) (state c mem m) r (state c mem m)) (sym h) (inl (p ∙ ap Err q, record { kept = (still m).kept; power = refl; card = refl }));
+    turn = subst (λ (z : Answer (Plan A)). ByPlan z (memory_view c mem) (surveyed_state c mem m) r (surveyed_state c mem m)) (sym h) (inl (p ∙ ap Err q, record { kept = (still m).kept; power = refl; card = refl }));
   }
 
   module _ (g : CardGeometry) (c : Kept) (is : c ≡ Ok g) (mem : Memory) (m : Model) where
-    by_plan : (x : Answer (Plan A)) (r : Answer A) (t : State) → plan (card_view g mem) m.shown ≡ x → ByPlan x (card_view g mem) (state c mem m) r t → Changes plan (state c mem m) r t
+    by_plan : (x : Answer (Plan A)) (r : Answer A) (t : State) → plan (card_view g mem) m.shown ≡ x → ByPlan x (card_view g mem) (surveyed_state c mem m) r t → Changes plan (surveyed_state c mem m) r t
     by_plan x r t e h = record {
       memory = card_view g mem;
-      card = ap (λ (z : Kept). surveyed (view z mem)) is;
-      turn = subst (λ (z : Answer (Plan A)). ByPlan z (card_view g mem) (state c mem m) r t) (sym e) h;
+      card = ap (λ (z : Kept). surveyed (memory_view z mem)) is;
+      turn = subst (λ (z : Answer (Plan A)). ByPlan z (card_view g mem) (surveyed_state c mem m) r t) (sym e) h;
     }
 
     -- every block of the plan was written
     pub changes_done : (p : Plan A) (k n : Model) (d : Kept) (after : Memory) (r : Answer A) → plan (card_view g mem) m.shown ≡ Ok p → Still m k → Altered accepted p.puts k n →
-        d ≡ c → card_view g after ≡ p.card → r ≡ Ok p.answer → Changes plan (state c mem m) r (state d after n)
-    changes_done p k n d after r e s a same card ans = by_plan (Ok p) r (state d after n) e (inl (record {
+        d ≡ c → card_view g after ≡ p.card → r ≡ Ok p.answer → Changes plan (surveyed_state c mem m) r (surveyed_state d after n)
+    changes_done p k n d after r e s a same card ans = by_plan (Ok p) r (surveyed_state d after n) e (inl (record {
       answer = ans;
       altered = still_altered accepted p.puts m k n s a;
-      card = ap (λ (z : Kept). surveyed (view z after)) (same ∙ is) ∙ ap surveyed card;
+      card = ap (λ (z : Kept). surveyed (memory_view z after)) (same ∙ is) ∙ ap surveyed card;
     }))
 
     -- power gone broke the writing off
     pub changes_broken : (p : Plan A) (k n : Model) (d : Kept) (after : Memory) (r : Answer A) (b : BlockNo) → plan (card_view g mem) m.shown ≡ Ok p → Still m k → Altered broken p.puts k n →
-        d ≡ Err (PowerGone b) → after ≡ mem → r ≡ Err (PowerGone b) → Changes plan (state c mem m) r (state d after n)
-    changes_broken p k n d after r b e s a gone kept ans = by_plan (Ok p) r (state d after n) e (inr (record {
+        d ≡ Err (PowerGone b) → after ≡ mem → r ≡ Err (PowerGone b) → Changes plan (surveyed_state c mem m) r (surveyed_state d after n)
+    changes_broken p k n d after r b e s a gone kept ans = by_plan (Ok p) r (surveyed_state d after n) e (inr (record {
       at = b;
       answer = ans;
       altered = still_altered broken p.puts m k n s a;
-      card = ap (λ (z : Kept). surveyed (view z after)) gone ∙ ap (λ (z : Memory). surveyed (view (Err (PowerGone b)) z)) kept;
+      card = ap (λ (z : Kept). surveyed (memory_view z after)) gone ∙ ap (λ (z : Memory). surveyed (memory_view (Err (PowerGone b)) z)) kept;
     }))
 
     -- the rule refused, or a read met power gone; `refuse` has handed the refusal on
     pub changes_refused : (d : Kept) (k n : Model) (e f : Refusal) → g.blocks ≤ m.count → Quiet (plan (card_view g mem) m.shown) →
-        f ≡ e → n ≡ k → d ≡ cond (eqb (number_of e) 1) (Err e) c → Refused g (plan (card_view g mem) m.shown) m k e → Changes plan (state c mem m) (Err f) (state d mem n)
+        f ≡ e → n ≡ k → d ≡ cond (eqb (number_of e) 1) (Err e) c → Refused g (plan (card_view g mem) m.shown) m k e → Changes plan (surveyed_state c mem m) (Err f) (surveyed_state d mem n)
     changes_refused d k n e f fit quiet p s t h =
-        subst (λ (z : Model). Changes plan (state c mem m) (Err f) (state d mem z)) (sym s) (subst (λ (z : Refusal). Changes plan (state c mem m) (Err z) (state d mem k)) (sym p) (go h))
+        subst (λ (z : Model). Changes plan (surveyed_state c mem m) (Err f) (surveyed_state d mem z)) (sym s) (subst (λ (z : Refusal). Changes plan (surveyed_state c mem m) (Err z) (surveyed_state d mem k)) (sym p) (go h))
       where
-        gone : (x : Answer (Plan A)) (b : BlockNo) → plan (card_view g mem) m.shown ≡ x → e ≡ PowerGone b → Lost m k → d ≡ Err (PowerGone b) → Changes plan (state c mem m) (Err e) (state d mem k)
+        gone : (x : Answer (Plan A)) (b : BlockNo) → plan (card_view g mem) m.shown ≡ x → e ≡ PowerGone b → Lost m k → d ≡ Err (PowerGone b) → Changes plan (surveyed_state c mem m) (Err e) (surveyed_state d mem k)
         gone (Ok q) b x is_gone l dd = changes_broken q m k d mem (Err e) b x (still m) (lost_altered q.puts m k l) dd refl (ap Err is_gone)
-        gone (Err q) b x is_gone l dd = by_plan (Err q) (Err e) (state d mem k) x (inr (b, (sizes g, refl), ap Err is_gone, record { lost = l; card = ap (λ (z : Kept). surveyed (view z mem)) dd }))
+        gone (Err q) b x is_gone l dd = by_plan (Err q) (Err e) (surveyed_state d mem k) x (inr (b, (sizes g, refl), ap Err is_gone, record { lost = l; card = ap (λ (z : Kept). surveyed (memory_view z mem)) dd }))
 
-        fault : (w : Fault) → e ≡ refusal_of w → Failed g m k w → Changes plan (state c mem m) (Err e) (state d mem k)
+        fault : (w : Fault) → e ≡ refusal_of w → Failed g m k w → Changes plan (surveyed_state c mem m) (Err e) (surveyed_state d mem k)
         fault (Met b) is_gone l = gone (plan (card_view g mem) m.shown) b refl is_gone l (t ∙ ap (λ (z : Refusal). cond (eqb (number_of z) 1) (Err z) c) is_gone)
         fault (NoSuchBlock b) is_gone l = absurd (omega (arith, fit, l.1))
 
-        go : Refused g (plan (card_view g mem) m.shown) m k e → Changes plan (state c mem m) (Err e) (state d mem k)
-        go (inl q) = by_plan (Err e) (Err e) (state d mem k) q.1 (inl (
+        go : Refused g (plan (card_view g mem) m.shown) m k e → Changes plan (surveyed_state c mem m) (Err e) (surveyed_state d mem k)
+        go (inl q) = by_plan (Err e) (Err e) (surveyed_state d mem k) q.1 (inl (
           refl,
           record {
             kept = q.0.kept;
             power = q.0.power;
-            card = ap (λ (z : Kept). surveyed (view z mem)) (t ∙ cond-false (eqb (number_of e) 1) (Err e) c (ne_eqb (number_of e) 1 (quiet e q.1)));
+            card = ap (λ (z : Kept). surveyed (memory_view z mem)) (t ∙ cond-false (eqb (number_of e) 1) (Err e) c (ne_eqb (number_of e) 1 (quiet e q.1)));
           },
         ))
         go (inr q) = fault q.0 q.1 q.2
@@ -170,20 +167,6 @@ done_known g c d after ms m k n p is same fit s a card tied agree room = subst (
     b : Altered accepted p.puts m n
     b = still_altered accepted p.puts m k n s a
 
--- ---- the blocks of a plan
-
--- power gone is the only refusal of blocks that the device has
-pub puts_refused : (ws : List Put) (m n : Model) (f : Fault) (e : Refusal) (r : Answer (Unit {0})) → first_outside m.count ws ≡ None → r ≡ Err e → e ≡ refusal_of f → WriteAllFault ws m n f → Puts ws m r n
-puts_refused ws m n (Met b) e r inside p q h = subst (λ (z : Answer (Unit {0})). Puts ws m z n) (sym (p ∙ ap Err q)) (b, refl, h.2)
-puts_refused ws m n (NoSuchBlock b) e r inside p q h =
-    let some = h.0 in
-    let z : ◌≡◌ {A = ℕ} 0 1 = cc in absurd (omega arith)
-
--- and the card keeps it
-pub commits_refused : (ws : List Put) (after : Memory) (c d : Kept) (mem : Memory) (m k n : Model) (e f : Refusal) → f ≡ e → n ≡ k → d ≡ cond (eqb (number_of e) 1) (Err e) c → Puts ws m (Err e) k → Commits ws after c mem m (Err f) d mem n
-commits_refused ws after c d mem m k n e f p s t h =
-    (h.0, p ∙ h.1, subst (λ (z : Model). Altered broken ws m z) (sym s) h.2, t ∙ ap (λ (z : Refusal). cond (eqb (number_of z) 1) (Err z) c) h.1, refl)
-
 -- ---- what a plan is made from
 
 pub is_known : (c : Kept) (g : CardGeometry) (mem : Memory) (ms : Marks) (m : Model) → c ≡ Ok g → Known c mem ms m → Knows g mem ms m
@@ -191,3 +174,84 @@ is_known c g mem ms m is w = subst (λ (z : Kept). Known z mem ms m) is w
 
 pub grounded : (g : CardGeometry) (mem : Memory) (ms : Marks) (m : Model) → Knows g mem ms m → Grounded g m ms
 grounded g mem ms m w = record { rooted = rooted (sizes g) (card_view g mem) m.shown w.tied; marked = w.marked }
+
+-- ---- a changing call, from its plan on
+
+-- what is known of its rule: it never answers power gone itself, the blocks of its plan are blocks of the card, and the memory after is tied to them
+pub record Call {A : Type 0} (plan : Card → Shown → Answer (Plan A)) (g : CardGeometry) (mem : Memory) (m : Model) : Type 0 where
+  pub quiet : Quiet (plan (card_view g mem) m.shown)
+  pub inside : (p : Plan A) → plan (card_view g mem) m.shown ≡ Ok p → (n : ℕ) → g.blocks ≤ n → first_outside n p.puts ≡ None
+  pub tied : (p : Plan A) → plan (card_view g mem) m.shown ≡ Ok p → Tied (sizes g) p.card (puts m.shown p.puts)
+
+-- the call did what the rule says, and what the card keeps is true
+pub record Made {A : Type 0} (plan : Card → Shown → Answer (Plan A)) (c : Kept) (mem : Memory) (m : Model) (r : Answer A) (d : Kept) (after : Memory) (ms : Marks) (n : Model) : Type 0 where
+  pub changes : Changes plan (surveyed_state c mem m) r (surveyed_state d after n)
+  pub known : Known d after ms n
+
+-- the plan of the call was made, with the answer y; the device is in state k now
+pub record Planning {A W : Type 0} (plan : Card → Shown → Answer (Plan A)) (P : W → Type 0) (g : CardGeometry) (c : Kept) (mem : Memory) (ms : Marks) (m : Model) (y : Answer W) (k : Model) : Type 0 where
+  pub is : c ≡ Ok g
+  pub known : Known c mem ms m
+  pub knows : Knows g mem ms m
+  pub call : Call plan g mem m
+  pub gives : Gives g y (plan (card_view g mem) m.shown) P m k
+
+pub planning : {A W : Type 0} (plan : Card → Shown → Answer (Plan A)) (P : W → Type 0) (g : CardGeometry) (c : Kept) (mem : Memory) (ms : Marks) (m : Model) (y : Answer W) (k : Model) → (Knows g mem ms m → Call plan g mem m) → c ≡ Ok g → Known c mem ms m →
+    (Grounded g m ms → Gives g y (plan (card_view g mem) m.shown) P m k) → Planning plan P g c mem ms m y k
+planning plan P g c mem ms m y k call is known gives =
+    let w = is_known c g mem ms m is known in
+    record { is = is; known = known; knows = w; call = call w; gives = gives (grounded g mem ms m w) }
+
+-- what `commit` says of a plan
+abbrev Carried : CodePlan → Kept → Memory → Model → Answer (Unit {0}) → Kept → Memory → Model → Type 0
+Carried code b mem j r d after n = first_outside j.count (puts_in code) ≡ None → Commits (puts_in code) code.memory b mem j r d after n
+
+module _ {D A W : Type 0} (model : D → Model) {plan : Card → Shown → Answer (Plan A)} {P : W → Type 0} {g : CardGeometry} {c : Kept} {mem : Memory} {ms : Marks} {m : Model} {y : Answer W} {z : D} (l : Planning plan P g c mem ms m y (model z)) where
+  pub plan_fits : Fitting c m → Fitting c (model z)
+  plan_fits = fits_moved c m (model z) (gives_count g y (plan (card_view g mem) m.shown) P m (model z) l.gives)
+
+  -- the answer as `keep` hands it on: the card has b and the device x then
+  module _ {b : Kept} {x : D} where
+    pub plan_refused : {e : Refusal} {r : Answer A} → (Err e ≡ y) × (x ≡ z) × (b ≡ kept_by y c) → r ≡ Err e → Made plan c mem m r b mem ms (model x)
+    plan_refused {e} {r} h p =
+        let q = subst (λ (o : Answer W). Gives g o (plan (card_view g mem) m.shown) P m (model z)) (sym h.0) l.gives in
+        let t = h.2 ∙ ap (λ (o : Answer W). kept_by o c) (sym h.0) in
+        let same = ap model h.1 in
+        record {
+          changes = subst (λ (o : Answer A). Changes plan (surveyed_state c mem m) o (surveyed_state b mem (model x))) (sym p) (changes_refused plan g c l.is mem m b (model z) (model x) e e l.knows.fits l.call.quiet refl same t q);
+          known = refused_known (plan (card_view g mem) m.shown) g c b mem ms m (model z) (model x) e l.knows.fits same t l.call.quiet q l.known;
+        }
+
+    module _ {v : W} (h : (Ok v ≡ y) × (x ≡ z) × (b ≡ kept_by y c)) where
+      pub plan_told : Still m (model z) × P v
+      plan_told = subst (λ (o : Answer W). Gives g o (plan (card_view g mem) m.shown) P m (model z)) (sym h.0) l.gives
+
+      -- accepted with this plan, which was then carried out
+      module _ (a : A) (code : CodePlan) (rule : P v → plan (card_view g mem) m.shown ≡ Ok (plan_view a g code)) where
+        commits : (d : Kept) (after : Memory) (n : Model) (r : Answer (Unit {0})) → Carried code b mem (model x) r d after n → Commits (puts_in code) code.memory c mem (model z) r d after n
+        commits d after n r q =
+            let same = ap model h.1 in
+            let inside = l.call.inside (plan_view a g code) (rule plan_told.1) (model z).count (omega (arith, plan_told.0.kept.count, l.knows.fits)) in
+            subst (λ (o : Kept). Commits (puts_in code) code.memory o mem (model z) r d after n) (h.2 ∙ ap (λ (o : Answer W). kept_by o c) (sym h.0))
+            (subst (λ (o : Model). Commits (puts_in code) code.memory b mem o r d after n) same
+            (q (subst (λ (o : Model). first_outside o.count (puts_in code) ≡ None) (sym same) inside)))
+
+        pub plan_broken : {d : Kept} {after : Memory} {n : Model} {e : Refusal} {r : Answer A} → Carried code b mem (model x) (Err e) d after n → r ≡ Err e → Made plan c mem m r d after ms n
+        plan_broken {d} {after} {n} {e} {r} q p =
+            let o = commits d after n (Err e) q in
+            record {
+              changes = changes_broken plan g c l.is mem m (plan_view a g code) (model z) n d after r o.0 (rule plan_told.1) plan_told.0 o.2 o.3 o.4 (p ∙ ap Err o.1);
+              known = gone_known d (PowerGone o.0) after ms n o.3;
+            }
+
+        pub plan_done : {d : Kept} {after : Memory} {n : Model} → Carried code b mem (model x) (Ok tt) d after n → Changes plan (surveyed_state c mem m) (Ok a) (surveyed_state d after n)
+        plan_done {d} {after} {n} q =
+            let o = commits d after n (Ok tt) q in
+            changes_done plan g c l.is mem m (plan_view a g code) (model z) n d after (Ok a) (rule plan_told.1) plan_told.0 o.0 o.1 (ap (card_view g) o.2) refl
+
+        -- the marks follow
+        pub plan_marked : {d : Kept} {after : Memory} {n : Model} → Carried code b mem (model x) (Ok tt) d after n → {marks : Marks} (new : Marks) → marks ≡ new → Agree (sizes g) (seen (sizes g) (puts m.shown (puts_in code))) new → Room (sizes g) new → Known d after marks n
+        plan_marked {d} {after} {n} q new set agree room =
+            let o = commits d after n (Ok tt) q in
+            subst (λ (k : Marks). Known d after k n) (sym set)
+            (done_known g c d after new m (model z) n (plan_view a g code) l.is o.1 l.knows.fits plan_told.0 o.0 (ap (card_view g) o.2) (l.call.tied (plan_view a g code) (rule plan_told.1)) agree room)

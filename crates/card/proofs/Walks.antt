@@ -18,11 +18,11 @@ use Rattle.rule.specs.Agree.{Shown, View, seen, root}
 use Rattle.rule.specs.Card.{Ready}
 use Rattle.rule.specs.Check.{Answer, ◌>>=◌}
 use Rattle.rule.specs.Reading.{step, components, at_component, all_named, walk, path}
-use Rattle.walk.specs.Still.{Failed, PathRefused}
+use Rattle.walk.specs.Still.{Failed, PathRefused, PathGives}
 use Rattle.walk.proofs.Stills.{still}
 use Rattle.walk.proofs.Stepping.{bind_ok, bind_err}
-use Rattle.card.specs.Views.{Kept, ready_view, Fitting}
-use Rattle.card.specs.Calls.{CoreReads}
+use Rattle.card_lists.specs.Ready.{Kept, ready_view, Fitting}
+use Rattle.card.specs.Calls.{CoreReads, noted}
 use Rattle.card.proofs.Quiet.{Quiet, step_quiet}
 
 no_ok : {A B E : Type 0} {a : B} {e : E} → Ok a ≡ Err e → A
@@ -90,3 +90,16 @@ path_stopped rule g x c m good d k n e fit r q s t h = subst (λ (z : Model). Co
     go : PathRefused g x m k e → CoreReads (met_at e.component) rule c m (Err e) d k
     go (inl h) = inl (h.0, sym (r ∙ h.1), t ∙ cond-false (eqb (number_of e.lower) 1) (Err e.lower) c (ne_eqb (number_of e.lower) 1 (q e h.1)))
     go (inr h) = fault h.0 h.1 h.2
+
+module _ (rule : Ready → Shown → Result Handle PathRefusal) (g : CardGeometry) {x : Result Handle PathRefusal} {c : Kept} {m k : Model} {y : Result Handle PathRefusal} (q : PathGives g y x (λ a. x ≡ Ok a) m k) (at : rule (ready_view c) m.shown ≡ x) where
+  -- the path was walked
+  pub path_told : (a : Handle) → y ≡ Ok a → CoreReads (met_at 0) rule c m y c k
+  path_told a is =
+      let h = subst (λ (z : Result Handle PathRefusal). PathGives g z x (λ b. x ≡ Ok b) m k) is q in
+      inl (h.0, is ∙ sym (at ∙ h.1), refl)
+
+  -- it was refused, and `note` has kept that
+  pub path_noted : {d : Kept} {n : Model} (e : PathRefusal) → y ≡ Err e → c ≡ Ok g → Fitting c m → PathQuiet x → n ≡ k → d ≡ noted e.lower c → CoreReads (met_at e.component) rule c m y d n
+  path_noted {d} {n} e is good fit quiet s t =
+      subst (λ (z : Result Handle PathRefusal). CoreReads (met_at e.component) rule c m z d n) (sym is)
+      (path_stopped rule g x c m good d k n e fit at quiet s t (subst (λ (z : Result Handle PathRefusal). PathGives g z x (λ b. x ≡ Ok b) m k) is q))

@@ -1,5 +1,6 @@
 -- What a reading call says of the part of a card that opened and surveyed cards have in common.
-use Rattle.std.specs.Prelude.{◌≡◌, ℕ, ◌⊎◌, List, ◌++◌, length, drop, Ok, Err, Result}
+use Rattle.std.specs.Prelude.{◌≡◌, ℕ, cond, ◌⊎◌, List, ◌++◌, length, drop, Ok, Err, Result, ◌==◌}
+use Rattle.base.specs.Refusals.{number_of}
 use Rattle.base.specs.declared.number.BlockNo.{BlockNo}
 use Rattle.base.specs.declared.refusal.Refusal.{Refusal}
 use Rattle.base.specs.declared.refusal.Refusal.TheVariants.{PowerGone}
@@ -7,10 +8,21 @@ use Rattle.device.specs.Model.{Model, Lost}
 use Rattle.layout.specs.declared.geometry.Geometry.{Geometry as CardGeometry}
 use Rattle.rule.specs.Agree.{Shown}
 use Rattle.rule.specs.Card.{Ready}
+use Rattle.rule.specs.Check.{Answer}
 use Rattle.walk.specs.Still.{Still}
-use Rattle.card.specs.Views.{Kept, ready_view}
+use Rattle.card_lists.specs.Ready.{Kept, ready_view}
 
--- the answer is the rule's and nothing changed; or power gone was met, of which `met` says how it is told, and the card keeps it
+-- a refusal that is power gone is kept
+abbrev pub noted : Refusal → Kept → Kept
+noted e c = cond (number_of e == 1) (Err e) c
+
+-- so is that of an answer
+abbrev pub kept_by : {A : Type 0} → Answer A → Kept → Kept
+kept_by (Ok a) c = c
+kept_by (Err e) c = noted e c
+
+-- the answer is the rule's and nothing changed; or power gone was met, of which `met` says how it is told, and the card keeps
+-- it. Where it is told as it is, that is `ReadsOn`
 abbrev pub CoreReads : {A E : Type 0} → (BlockNo → E) → (Ready → Shown → Result A E) → Kept → Model → Result A E → Kept → Model → Type 0
 CoreReads met rule c m r d n =
     (Still m n × (r ≡ rule (ready_view c) m.shown) × (d ≡ c))

@@ -3,5 +3,8 @@ pub mod Calls
 pub mod Opening
 pub mod Files
 pub mod Valid
+pub mod Once
 pub mod Commits
 pub mod Progress
+pub mod Opened
+pub mod Surveyed

@@ -10,7 +10,7 @@ use Rattle.rule.specs.Agree.{Shown, seen, same_kind, same_handle, root}
 use Rattle.rule.specs.Card.{Ready, block, is_root}
 use Rattle.rule.specs.Check.{◌>>=◌, check}
 use Rattle.walk.specs.Still.{Still}
-use Rattle.card.specs.Views.{Kept}
+use Rattle.card_lists.specs.Ready.{Kept}
 
 -- a folder of identity 1 whose parent is itself
 abbrev pub rooted : Slot → Bool

@@ -11,7 +11,9 @@ use base::refusal::Refusal;
 use device::Device;
 use layout::geometry::Geometry;
 use walk::handle::read_kind;
-use walk::leaf::{LeafCopy, read_leaf};
+use walk::leaf::read_leaf;
+use walk::leaf_copy::LeafCopy;
+use walk::node::Node;
 
 // A leaf of a file: its slot and its body are read, nothing else.
 pub fn read_file<D: Device>(
@@ -23,12 +25,13 @@ pub fn read_file<D: Device>(
     ensures { Gives g.now result (leaf_bytes (sizes g.now) (shows g.now (D.Device.model device.old)) handle.now leaf.0) (λ l. leaf_bytes (sizes g.now) (shows g.now (D.Device.model device.old)) handle.now leaf.0 ≡ Ok (front l)) (D.Device.model device.old) (D.Device.model device.new) }
 {
     let slot = read_kind(device, g, Kind::File, handle)?;
+    let file = Node {
+        handle: *handle,
+        slot,
+    };
     if leaf.0 >= slot.count {
         return Err(Refusal::NoSuchLeaf(leaf));
     }
-    let copy = read_leaf(device, g, *handle, &slot, leaf)?;
-    match copy {
-        Some(l) => Ok(l),
-        None => Err(Refusal::LeafNotGood(slot.number(leaf))),
-    }
+    let copy = read_leaf(device, g, &file, leaf)?;
+    copy.ok_or(Refusal::LeafNotGood(slot.number(leaf)))
 }

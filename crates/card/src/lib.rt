@@ -1,6 +1,7 @@
 // A card on a device: what can be read of it.
 #![tactic(auto)]
 
+mod commit;
 pub mod file;
 pub mod inner;
 pub mod lists;

@@ -1,50 +1,38 @@
 // A surveyed card: it can be read and changed. Whatever a call does is said as a step of the card's history.
-ghost use Rattle.std.specs.Prelude.{◌≡◌, ℕ, ◌≤◌, List, length, Some, None};
-ghost use Rattle.std.specs.Result.{result_map_both as mapped_answer};
+ghost use Rattle.std.specs.Prelude.{◌≡◌, ℕ, Some};
 ghost use Rattle.std.specs.Option.{option_map};
-ghost use Rattle.base.specs.declared.refusal.Refusal.TheVariants.{PowerGone};
-ghost use Rattle.device.specs.Effect.{first_outside};
-ghost use Rattle.device.specs.Model.{Cut};
 ghost use Rattle.layout.specs.Format.{back as leaf_line};
 ghost use Rattle.marks.specs.Marks.{with_gained};
-ghost use Rattle.rule.specs.Changing as changing;
-ghost use Rattle.rule.specs.Check.{Answer};
-ghost use Rattle.rule.specs.Reading as reading;
-ghost use Rattle.history.specs.Events.{Reads, Changes, Syncs};
-ghost use Rattle.tours.specs.Lists.{entry_row};
-ghost use Rattle.tours.specs.Damage.{damage_row};
-ghost use Rattle.card_lists.specs.Lined.{zero_entry, zero_damage};
-ghost use Rattle.card_lists.specs.Ready.{LinesOf};
-ghost use Rattle.change.specs.Plans.{puts_in};
-ghost use Rattle.card.specs.Calls.{Fills};
-ghost use Rattle.card.specs.Commits.{Puts, Commits};
-ghost use Rattle.card.specs.Valid.{Valid};
-ghost use Rattle.card.specs.Views.{status_view, space_view, block_number, gained_block, surveyed_on};
+ghost use Rattle.rule.specs.Changing.{synced};
+ghost use Rattle.change.specs.Plans.{gained_block};
+ghost use Rattle.card.specs.Once.{Known-prop};
+ghost use Rattle.card.specs.Valid.{Known as IsKnown};
 
 use crate::inner::{Core, Status};
-use base::number::{BlockNo, LeafNo};
+use base::number::LeafNo;
 use base::owner::{Back, Handle, Kind};
 use base::refusal::{PathRefusal, Refusal};
 use change::create::plan_create;
 use change::drop::drop_leaves;
-use change::plan::{Gained, Memory, Plan};
+use change::known::Known;
+use change::plan::{Created, Gained, Memory};
 use change::remove::plan_remove;
 use change::shorten::plan_shorten;
 use change::write::plan_write;
 use device::Device;
-use device::effect::write_all;
 use device::fault::Synced;
 use listing::line::{DamageLine, EntryLine};
 use marks::mark::{Marks, SlotMark};
 use power::PowerCut;
 use walk::path::check_name;
 
-// `memory` has the highest identity and the two cursors, `marks` what is reached and held.
+// `memory` has the highest identity and the two cursors, `marks` what is reached and held: both agree with the blocks shown.
 #[derive(Drop)]
-pub struct Surveyed<D> {
+pub struct Surveyed<D: Device> {
     pub(crate) core: Core<D>,
     pub(crate) memory: Memory,
     pub(crate) marks: Marks,
+    ghost known: { IsKnown core.ready memory marks (D.Device.model core.device) } by { Known-prop core.ready memory marks (D.Device.model core.device) },
 }
 
 // How many bodies and how many slots are free.
@@ -54,42 +42,21 @@ pub struct Space {
     pub slots: u16,
 }
 
-// Writes the blocks of a plan.
-fn write_plan<D: Device>(device: &mut D, plan: &Plan) -> Result<(), Refusal>
-    ensures { plan.now.len ≤ 3 → first_outside (D.Device.model device.old).count (puts_in plan.now) ≡ None → Puts (puts_in plan.now) (D.Device.model device.old) result (D.Device.model device.new) }
+// Marks the leaf that a file or folder gained, if it gained one.
+fn mark_gained(marks: &mut Marks, gained: Option<Gained>, owner: &Handle)
+    ensures { (k : ℕ) → ((y : Gained) → gained ≡ Some y → y.leaf.0 ≡ k) → marks.new ≡ with_gained marks.old (option_map gained_block gained) (leaf_line owner.now k) }
 {
-    write_all(device, &plan.puts[0..plan.len.min(3)])?;
-    Ok(())
-}
-
-// Marks a body that a file gained, if it gained one.
-fn mark_gained(marks: &mut Marks, body: Option<BlockNo>, back: Back)
-    ensures { marks.new ≡ with_gained marks.old (option_map block_number body) back }
-{
-    match body {
-        Some(at) => marks.set_body(at, Some(back)),
-        None => {}
-    }
-}
-
-// Marks a leaf that a folder gained, if it gained one.
-fn mark_leaf(marks: &mut Marks, gained: Option<Gained>, folder: &Handle)
-    ensures { (k : ℕ) → ((y : Gained) → gained ≡ Some y → y.leaf.0 ≡ k) → marks.new ≡ with_gained marks.old (option_map gained_block gained) (leaf_line folder.now k) }
-{
-    match gained {
-        Some(y) => {
-            let back = Back {
-                owner: *folder,
-                leaf: y.leaf,
-            };
-            marks.set_body(y.block, Some(back));
-        }
-        None => {}
+    if let Some(gain) = gained {
+        let back = Back {
+            owner: *owner,
+            leaf: gain.leaf,
+        };
+        marks.set_body(gain.block, Some(back));
     }
 }
 
 fn sync_answer(answer: Synced) -> Result<(), Refusal>
-    ensures { result ≡ changing.synced answer }
+    ensures { result ≡ synced answer }
 {
     match answer {
         Synced::Settled => Ok(()),
@@ -97,28 +64,40 @@ fn sync_answer(answer: Synced) -> Result<(), Refusal>
     }
 }
 
-// `Valid` is what the end of the survey gives and each call keeps, so it holds of every card.
+// Kept: the reading calls stand here and in `Opened`, a line each over `Core`: a common trait would lend `&mut Core`, which may break `known`; a generic card asks for a trait of four ghost members, and is no plainer.
 impl<D: Device> Surveyed<D> {
+    ghost use Rattle.std.specs.Prelude.{List, length};
+    ghost use Rattle.std.specs.Result.{result_map_both as mapped_answer};
+    ghost use Rattle.base.specs.declared.refusal.Refusal.TheVariants.{PowerGone};
+    ghost use Rattle.rule.specs.Changing as changing;
+    ghost use Rattle.rule.specs.Check.{Answer};
+    ghost use Rattle.rule.specs.Reading as reading;
+    ghost use Rattle.history.specs.Events.{Reads, Changes, Syncs};
+    ghost use Rattle.tours.specs.Lists.{entry_row};
+    ghost use Rattle.tours.specs.Damage.{damage_row};
+    ghost use Rattle.card_lists.specs.Lined.{zero_entry, zero_damage};
+    ghost use Rattle.card_lists.specs.Ready.{LinesOf};
+    ghost use Rattle.card.specs.Calls.{Fills};
+    ghost use Rattle.card.specs.Surveyed.{on};
+    ghost use Rattle.card.specs.Views.{status_view, space_view};
+
     // The child of a folder that has the name: the first sound entry, by leaf, then place.
     pub fn find(&mut self, folder: &Handle, name: &[u8]) -> Result<Handle, Refusal>
-        ensures reads { Valid D.Device.model self.old → Reads PowerGone (reading.find folder.now name.now) (surveyed_on D.Device.model self.old) result (surveyed_on D.Device.model self.new) }
-        ensures valid { Valid D.Device.model self.old → Valid D.Device.model self.new }
+        ensures reads { Reads PowerGone (reading.find folder.now name.now) (on self.old) result (on self.new) }
     {
         self.core.find(folder, name)
     }
 
     // The file or folder that a path leads to, from the root. A refusal tells the component too.
     pub fn path(&mut self, path: &[u8]) -> Result<Handle, PathRefusal>
-        ensures reads { Valid D.Device.model self.old → (i : ℕ) × Reads (λ b. record { lower = PowerGone b; component = i }) (reading.path path.now) (surveyed_on D.Device.model self.old) result (surveyed_on D.Device.model self.new) }
-        ensures valid { Valid D.Device.model self.old → Valid D.Device.model self.new }
+        ensures reads { (i : ℕ) × Reads (λ b. record { lower = PowerGone b; component = i }) (reading.path path.now) (on self.old) result (on self.new) }
     {
         self.core.path(path)
     }
 
     // Kind, leaf count and parent.
     pub fn status(&mut self, handle: &Handle) -> Result<Status, Refusal>
-        ensures reads { Valid D.Device.model self.old → Reads PowerGone (reading.status handle.now) (surveyed_on D.Device.model self.old) (mapped_answer status_view (λ e. e) result) (surveyed_on D.Device.model self.new) }
-        ensures valid { Valid D.Device.model self.old → Valid D.Device.model self.new }
+        ensures reads { Reads PowerGone (reading.status handle.now) (on self.old) (mapped_answer status_view (λ e. e) result) (on self.new) }
     {
         self.core.status(handle)
     }
@@ -131,31 +110,28 @@ impl<D: Device> Surveyed<D> {
         leaf: LeafNo,
         buffer: &mut [u8],
     ) -> Result<usize, Refusal>
-        ensures reads { Valid D.Device.model self.old → (a : Answer (List ℕ)) × Reads PowerGone (reading.read handle.now leaf.0 (length buffer.old)) (surveyed_on D.Device.model self.old) a (surveyed_on D.Device.model self.new) × Fills a result buffer.old buffer.new }
-        ensures valid { Valid D.Device.model self.old → Valid D.Device.model self.new }
+        ensures reads { (a : Answer (List ℕ)) × Reads PowerGone (reading.read handle.now leaf.0 (length buffer.old)) (on self.old) a (on self.new) × Fills a result buffer.old buffer.new }
     {
         self.core.read(handle, leaf, buffer)
     }
 
     // The sound entries of a folder, into the front of the lines; answers how many there are.
     pub fn list(&mut self, folder: &Handle, lines: &mut [EntryLine]) -> Result<usize, Refusal>
-        ensures reads { Valid D.Device.model self.old → (a : Answer (List reading.EntryLine)) × Reads PowerGone (reading.list folder.now) (surveyed_on D.Device.model self.old) a (surveyed_on D.Device.model self.new) × LinesOf entry_row zero_entry a result lines.old lines.new }
-        ensures valid { Valid D.Device.model self.old → Valid D.Device.model self.new }
+        ensures reads { (a : Answer (List reading.EntryLine)) × Reads PowerGone (reading.list folder.now) (on self.old) a (on self.new) × LinesOf entry_row zero_entry a result lines.old lines.new }
     {
         self.core.list(folder, lines)
     }
 
     // The leaves of reached slots that are not good, into the front of the lines; answers how many there are.
     pub fn damage(&mut self, lines: &mut [DamageLine]) -> Result<usize, Refusal>
-        ensures reads { Valid D.Device.model self.old → (a : Answer (List reading.DamageLine)) × Reads PowerGone reading.damage (surveyed_on D.Device.model self.old) a (surveyed_on D.Device.model self.new) × LinesOf damage_row zero_damage a result lines.old lines.new }
-        ensures valid { Valid D.Device.model self.old → Valid D.Device.model self.new }
+        ensures reads { (a : Answer (List reading.DamageLine)) × Reads PowerGone reading.damage (on self.old) a (on self.new) × LinesOf damage_row zero_damage a result lines.old lines.new }
     {
         self.core.damage(lines)
     }
 
     // How many bodies and slots are free: no device call.
     pub fn space(&self) -> Result<Space, Refusal>
-        ensures reads { Valid D.Device.model self.now → Reads PowerGone reading.space (surveyed_on D.Device.model self.now) (mapped_answer space_view (λ e. e) result) (surveyed_on D.Device.model self.now) }
+        ensures reads { Reads PowerGone reading.space (on self.now) (mapped_answer space_view (λ e. e) result) (on self.now) }
     {
         let g = self.core.ready?;
         Ok(Space {
@@ -164,136 +140,93 @@ impl<D: Device> Surveyed<D> {
         })
     }
 
-    // Carries a plan out: all of its blocks are written, or power gone is met.
-    fn commit(&mut self, plan: &Plan) -> Result<(), Refusal>
-        ensures commits { plan.now.len ≤ 3 → first_outside (D.Device.model self.old.core.device).count (puts_in plan.now) ≡ None → Commits (puts_in plan.now) plan.now.memory self.old.core.ready self.old.memory (D.Device.model self.old.core.device) result self.new.core.ready self.new.memory (D.Device.model self.new.core.device) }
-        ensures marks { self.new.marks ≡ self.old.marks }
-    {
-        match write_plan(&mut self.core.device, plan) {
-            Ok(()) => {
-                self.memory = plan.memory;
-                Ok(())
-            }
-            Err(e) => Err(self.core.refuse(e)),
-        }
-    }
-
     // Makes an empty file or folder in a folder, under a name that is not taken; answers its handle.
     pub fn create(&mut self, kind: Kind, folder: &Handle, name: &[u8]) -> Result<Handle, Refusal>
-        ensures changes { Valid D.Device.model self.old → Changes (changing.create kind folder.now name.now) (surveyed_on D.Device.model self.old) result (surveyed_on D.Device.model self.new) }
-        ensures valid { Valid D.Device.model self.old → Valid D.Device.model self.new }
+        ensures changes { Changes (changing.create kind folder.now name.now) (on self.old) result (on self.new) }
     {
         check_name(name)?;
         let g = self.core.ready?;
-        match plan_create(
-            &mut self.core.device,
-            &g,
-            &self.memory,
-            &self.marks,
-            kind,
-            folder,
-            name,
-        ) {
-            Ok(w) => {
-                self.commit(&w.plan)?;
-                let mark = SlotMark {
-                    identity: w.child.identity,
-                    parent: *folder,
-                };
-                self.marks.set_slot(w.child.slot, Some(mark));
-                mark_leaf(&mut self.marks, w.gained, folder);
-                Ok(w.child)
-            }
-            Err(e) => Err(self.core.refuse(e)),
-        }
+        let known = Known {
+            geometry: g,
+            memory: self.memory,
+            marks: &self.marks,
+        };
+        let planned = plan_create(&mut self.core.device, &known, kind, folder, name);
+        let accepted = self.core.keep(planned)?;
+        self.core.commit(&accepted.plan, &mut self.memory)?;
+        let Created { child, gained } = accepted.change;
+        let mark = SlotMark {
+            identity: child.identity,
+            parent: *folder,
+        };
+        self.marks.set_slot(child.slot, Some(mark));
+        mark_gained(&mut self.marks, gained, folder);
+        Ok(child)
     }
 
     // A leaf of a file gets these bytes, at most 496: a good leaf below the count, or a new one at the count.
     pub fn write(&mut self, file: &Handle, leaf: LeafNo, bytes: &[u8]) -> Result<(), Refusal>
-        ensures changes { Valid D.Device.model self.old → Changes (changing.write file.now leaf.0 bytes.now) (surveyed_on D.Device.model self.old) result (surveyed_on D.Device.model self.new) }
-        ensures valid { Valid D.Device.model self.old → Valid D.Device.model self.new }
+        ensures changes { Changes (changing.write file.now leaf.0 bytes.now) (on self.old) result (on self.new) }
     {
         if bytes.len() > 496 {
             return Err(Refusal::BadLength(bytes.len()));
         }
         let g = self.core.ready?;
-        match plan_write(
-            &mut self.core.device,
-            &g,
-            &self.memory,
-            &self.marks,
-            file,
-            leaf,
-            bytes,
-        ) {
-            Ok(w) => {
-                self.commit(&w.plan)?;
-                let back = Back { owner: *file, leaf };
-                mark_gained(&mut self.marks, w.body, back);
-                Ok(())
-            }
-            Err(e) => Err(self.core.refuse(e)),
-        }
+        let known = Known {
+            geometry: g,
+            memory: self.memory,
+            marks: &self.marks,
+        };
+        let planned = plan_write(&mut self.core.device, &known, file, leaf, bytes);
+        let accepted = self.core.keep(planned)?;
+        self.core.commit(&accepted.plan, &mut self.memory)?;
+        mark_gained(&mut self.marks, accepted.change, file);
+        Ok(())
     }
 
     // The file keeps its first n leaves.
     pub fn shorten(&mut self, file: &Handle, n: LeafNo) -> Result<(), Refusal>
-        ensures changes { Valid D.Device.model self.old → Changes (changing.shorten file.now n.0) (surveyed_on D.Device.model self.old) result (surveyed_on D.Device.model self.new) }
-        ensures valid { Valid D.Device.model self.old → Valid D.Device.model self.new }
+        ensures changes { Changes (changing.shorten file.now n.0) (on self.old) result (on self.new) }
     {
         let g = self.core.ready?;
-        match plan_shorten(
-            &mut self.core.device,
-            &g,
-            &self.memory,
-            &self.marks,
-            file,
-            n,
-        ) {
-            Ok(w) => {
-                self.commit(&w.plan)?;
-                drop_leaves(&mut self.marks, file, &w.slot, n.0);
-                Ok(())
-            }
-            Err(e) => Err(self.core.refuse(e)),
-        }
+        let known = Known {
+            geometry: g,
+            memory: self.memory,
+            marks: &self.marks,
+        };
+        let planned = plan_shorten(&mut self.core.device, &known, file, n);
+        let accepted = self.core.keep(planned)?;
+        self.core.commit(&accepted.plan, &mut self.memory)?;
+        drop_leaves(&mut self.marks, &accepted.change, n);
+        Ok(())
     }
 
     // Removes what the name leads to: a file, or a folder that has no sound entry.
     pub fn remove(&mut self, folder: &Handle, name: &[u8]) -> Result<(), Refusal>
-        ensures changes { Valid D.Device.model self.old → Changes (changing.remove folder.now name.now) (surveyed_on D.Device.model self.old) result (surveyed_on D.Device.model self.new) }
-        ensures valid { Valid D.Device.model self.old → Valid D.Device.model self.new }
+        ensures changes { Changes (changing.remove folder.now name.now) (on self.old) result (on self.new) }
     {
         check_name(name)?;
         let g = self.core.ready?;
-        match plan_remove(
-            &mut self.core.device,
-            &g,
-            &self.memory,
-            &self.marks,
-            folder,
-            name,
-        ) {
-            Ok(w) => {
-                self.commit(&w.plan)?;
-                drop_leaves(&mut self.marks, &w.child, &w.slot, 0);
-                self.marks.set_slot(w.child.slot, None);
-                Ok(())
-            }
-            Err(e) => Err(self.core.refuse(e)),
-        }
+        let known = Known {
+            geometry: g,
+            memory: self.memory,
+            marks: &self.marks,
+        };
+        let planned = plan_remove(&mut self.core.device, &known, folder, name);
+        let accepted = self.core.keep(planned)?;
+        self.core.commit(&accepted.plan, &mut self.memory)?;
+        drop_leaves(&mut self.marks, &accepted.change, LeafNo(0));
+        self.marks.set_slot(accepted.change.handle.slot, None);
+        Ok(())
     }
 
     // Asks the device that all that is shown lands (a flush), and passes its answer on.
     pub fn sync(&mut self) -> Result<(), Refusal>
-        ensures syncs { Valid D.Device.model self.old → Syncs (surveyed_on D.Device.model self.old) result (surveyed_on D.Device.model self.new) }
-        ensures valid { Valid D.Device.model self.old → Valid D.Device.model self.new }
+        ensures syncs { Syncs (on self.old) result (on self.new) }
     {
-        let _g = self.core.ready?;
-        match self.core.device.sync() {
-            Ok(answer) => sync_answer(answer),
-            Err(e) => Err(self.core.refuse(e.into())),
-        }
+        self.core.ready?;
+        let answer = self.core.device.sync().map_err(Refusal::from);
+        sync_answer(self.core.keep(answer)?)
     }
 
     // The device, to be looked at from outside.
@@ -304,19 +237,13 @@ impl<D: Device> Surveyed<D> {
     }
 }
 
-// The plug is pulled: the card is over, and the device comes back as the cut left it, to be opened anew.
 impl<D: PowerCut> Surveyed<D> {
+    ghost use Rattle.device.specs.Model.{Cut};
+
+    // The plug is pulled: the card is over, and the device comes back as the cut left it, to be opened anew.
     pub fn cut(self, landing: &[u16]) -> D
         ensures { Cut (D.Device.model self.core.device) (D.Device.model result) }
     {
-        let Surveyed {
-            core,
-            memory: _,
-            marks: _,
-        } = self;
-        let Core { device, ready: _ } = core;
-        let mut device = device;
-        device.cut(landing);
-        device
+        self.core.cut(landing)
     }
 }

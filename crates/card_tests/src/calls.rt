@@ -4,7 +4,6 @@ use base::number::LeafNo;
 use base::owner::Handle;
 use base::refusal::{PathRefusal, Refusal};
 use card::inner::Core;
-use card::open::open_card;
 use card::opened::open;
 use device::Device;
 use device::plain::Plain;
@@ -51,12 +50,10 @@ fn taken(card: &mut Core<Counting<Plain>>) -> u32 {
 
 // How many blocks open, find, path, list, status, damage and read have read.
 pub fn reads(image: &mut [u8], name: &[u8], path: &[u8], h: &Handle, leaf: u16) -> [u32; 7] {
-    let mut device = Counting {
+    let mut card = Core::open(Counting {
         below: Plain::new(image),
         reads: 0,
-    };
-    let ready = open_card(&mut device);
-    let mut card = Core { device, ready };
+    });
     let mut entries = [NO_ENTRY; 4];
     let mut damage = [NO_DAMAGE; 4];
     let mut buffer = [0u8; 496];

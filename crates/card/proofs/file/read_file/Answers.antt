@@ -7,7 +7,7 @@ use Rattle.walk.specs.Copies.{copied, LeafIs}
 use Rattle.walk.specs.Still.{shows}
 use Rattle.walk.proofs.Stills.{still_then}
 use Rattle.walk.proofs.Stepping.{refused_as, gives_exit}
-use Rattle.card.proofs.Files.{bytes_err, bytes_past, bytes_bad, bytes_good}
+use Rattle.card.proofs.Files.{bytes_err, bytes_past, leaf_gives}
 use Rattle.card.proofs.file.read_file.Goals as goal
 
 pub returns-in_err-slot : goal.returns-in_err-slot
@@ -22,18 +22,12 @@ returns-then-leaf-slot g c =
     let s = c.in_ok-slot.slot in
     inl (e.0, bytes_past (sizes c.args.g.now) (shows c.args.g.now (g.D.Device.model c.args.device.now)) c.args.handle.now c.args.leaf.0 (copied s) e.1 (omega (arith, c.if-leaf-slot.true, length_numbers s.count s.numbers)))
 
-pub returns-in-Some : goal.returns-in-Some
-returns-in-Some g c =
+pub returns : goal.returns
+returns g c =
+    let geo = c.args.g.now in
+    let m = g.D.Device.model c.args.device.now in
     let e = c.in_ok-slot.ensures in
     let d = c.in_ok-copy.ensures in
     let s = c.in_ok-slot.slot in
-    let moved = subst (λ (f : Shown). LeafIs (seen (sizes c.args.g.now) f) c.args.handle.now (copied s) c.args.leaf.0 c.in_ok-copy.copy) e.0.kept.shown d.1 in
-    (still_then _ _ _ e.0 d.0, bytes_good (sizes c.args.g.now) (shows c.args.g.now (g.D.Device.model c.args.device.now)) c.args.handle.now c.args.leaf.0 (copied s) e.1 (omega (arith, c.if-leaf-slot.false, length_numbers s.count s.numbers)) _ _ c.in-Some.is moved)
-
-pub returns-in-None : goal.returns-in-None
-returns-in-None g c =
-    let e = c.in_ok-slot.ensures in
-    let d = c.in_ok-copy.ensures in
-    let s = c.in_ok-slot.slot in
-    let moved = subst (λ (f : Shown). LeafIs (seen (sizes c.args.g.now) f) c.args.handle.now (copied s) c.args.leaf.0 c.in_ok-copy.copy) e.0.kept.shown d.1 in
-    inl (still_then _ _ _ e.0 d.0, bytes_bad (sizes c.args.g.now) (shows c.args.g.now (g.D.Device.model c.args.device.now)) c.args.handle.now c.args.leaf.0 (copied s) e.1 (omega (arith, c.if-leaf-slot.false, length_numbers s.count s.numbers)) _ _ c.in-None.is moved c.number.ensures)
+    leaf_gives geo m _ c.args.handle.now c.args.leaf.0 (copied s) e.1 (omega (arith, c.if-leaf-slot.false, length_numbers s.count s.numbers)) c.in_ok-copy.copy c.number.result c.ok_or.result c.ok_or.ensures.value c.number.ensures
+    (subst (λ (f : Shown). LeafIs (seen (sizes geo) f) c.args.handle.now (copied s) c.args.leaf.0 c.in_ok-copy.copy) e.0.kept.shown d.1) (still_then _ _ _ e.0 d.0)

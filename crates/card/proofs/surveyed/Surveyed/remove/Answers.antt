@@ -1,132 +1,79 @@
-use Rattle.std.proofs.Common.{◌≡◌, ℕ, ◌-◌, None, Err, sym, refl, ap, ◌∙◌, subst, arith}
+use Rattle.std.proofs.Common.{◌≡◌, ◌-◌, ℕ, None, Err, refl, ap, ◌∙◌, arith}
 use Rattle.std.proofs.lemmas.Result.{err_from_is_err_and}
-use Rattle.marks.specs.Marks.{with_slot, without}
-use Rattle.rule.specs.Agree.{count, from}
-use Rattle.walk.specs.Copies.{copied}
 use Rattle.layout.specs.Sizes.{sizes}
+use Rattle.marks.specs.Marks.{with_slot, without}
 use Rattle.marks.specs.declared.mark.Marks.{Marks}
 use Rattle.moves.proofs.Follows.{remove_marks}
 use Rattle.moves.proofs.Lines.{room_stays}
-use Rattle.moves.proofs.Stays.{remove_stays_tied}
-use Rattle.rule.specs.Card.{Plan}
-use Rattle.rule.specs.Changing as changing
+use Rattle.rule.specs.Agree.{count, from}
+use Rattle.rule.specs.Changing.{remove}
+use Rattle.walk.specs.Copies.{copied}
 use Rattle.change.specs.Plans.{card_view, plan_view}
-use Rattle.card.specs.Valid.{Knows, Known}
-use Rattle.card.specs.Views.{ready_view}
-use Rattle.card.proofs.Insides.{remove_inside}
-use Rattle.card.proofs.Plans.{view, is_known, grounded, changes_early, changes_done, changes_broken, changes_refused, done_known, gone_known, refused_known}
-use Rattle.card.proofs.Quiet.{remove_quiet}
+use Rattle.card_lists.specs.Ready.{ready_view}
+use Rattle.card.specs.Valid.{memory_view}
+use Rattle.card.proofs.Calling.{remove_planning}
+use Rattle.card.proofs.Plans.{plan_fits, plan_refused, plan_told, plan_broken, plan_done, plan_marked, changes_early}
 use Rattle.card.proofs.Ready.{remove_bad, remove_unready}
 use Rattle.card.proofs.surveyed.Surveyed.remove.Goals as goal
 
 pub returns-in_err-check_name : goal.returns-in_err-check_name
-returns-in_err-check_name g c = record {
-  changes = λ v.
-      let me = c.args.self.now in
-      let p = err_from_is_err_and c.from_residual.result c.from_residual.ensures.1 in
-      changes_early (changing.remove c.args.folder.now c.args.name.now) me.core.ready me.memory (g.D.Device.model me.core.device) _ _ _ p.1 p.2
-      (remove_bad (view me.core.ready me.memory) (g.D.Device.model me.core.device).shown c.args.folder.now c.args.name.now _ c.in_err-check_name.ensures);
-  valid = λ v. v;
-}
+returns-in_err-check_name g c =
+    let me = c.args.self.now in
+    let m = g.D.Device.model me.core.device in
+    let p = err_from_is_err_and c.from_residual.result c.from_residual.ensures.1 in
+    record {
+      changes = changes_early (remove c.args.folder.now c.args.name.now) me.core.ready me.memory m _ _ _ p.1 p.2 (remove_bad (memory_view me.core.ready me.memory) m.shown c.args.folder.now c.args.name.now _ c.in_err-check_name.ensures);
+    }
 
 pub returns-in_err-g : goal.returns-in_err-g
-returns-in_err-g g c = record {
-  changes = λ v.
-      let me = c.args.self.now in
-      let p = err_from_is_err_and c.from_residual-in_err-g.result c.from_residual-in_err-g.ensures.1 in
-      changes_early (changing.remove c.args.folder.now c.args.name.now) me.core.ready me.memory (g.D.Device.model me.core.device) _ _ _ p.1 p.2
-      (remove_unready (view me.core.ready me.memory) (g.D.Device.model me.core.device).shown c.args.folder.now c.args.name.now _ c.in_ok-check_name.ensures (ap ready_view c.in_err-g.was));
-  valid = λ v. v;
-}
-
-pub returns-in_err-commit-in-Ok : goal.returns-in_err-commit-in-Ok
-returns-in_err-commit-in-Ok g c =
+returns-in_err-g g c =
     let me = c.args.self.now in
-    let geo = c.in_ok-g.g in
-    let ready = me.core.ready in
-    let is = c.in_ok-g.was in
-    let mem = me.memory in
-    let ms = me.marks in
     let m = g.D.Device.model me.core.device in
-    let k = g.D.Device.model c.plan_remove.new.device in
-    let n = g.D.Device.model c.commit.new.self.core.device in
-    let knows : Known ready mem ms m → Knows geo mem ms m = is_known ready geo mem ms m is in
+    let p = err_from_is_err_and c.from_residual-in_err-g.result c.from_residual-in_err-g.ensures.1 in
     record {
-      changes = λ v.
-          let w = knows v in
-          let e = c.in-Ok.ensures (grounded geo mem ms m w) in
-          let q = e.1 in
-          let p : Plan (Unit {0}) = plan_view tt geo c.in-Ok.w.plan in
-          let r = err_from_is_err_and c.from_residual-in_err-commit-in-Ok.result c.from_residual-in_err-commit-in-Ok.ensures.1 in
-          let inside = remove_inside (sizes geo) (card_view geo mem) m.shown w.tied k.count (omega (arith, e.0.kept.count, w.fits)) c.args.folder.now c.args.name.now p q.rule in
-          let b = c.in_err-commit-in-Ok.ensures.commits q.few inside in
-          changes_broken (changing.remove c.args.folder.now c.args.name.now) geo ready is mem m p k n _ _ _ b.0 q.rule e.0 b.2 b.3 b.4 (r.1 ∙ ap Err (r.2 ∙ b.1));
-      valid = λ v.
-          let w = knows v in
-          let e = c.in-Ok.ensures (grounded geo mem ms m w) in
-          let q = e.1 in
-          let p : Plan (Unit {0}) = plan_view tt geo c.in-Ok.w.plan in
-          let inside = remove_inside (sizes geo) (card_view geo mem) m.shown w.tied k.count (omega (arith, e.0.kept.count, w.fits)) c.args.folder.now c.args.name.now p q.rule in
-          let b = c.in_err-commit-in-Ok.ensures.commits q.few inside in
-          gone_known _ _ _ _ _ b.3;
+      changes = changes_early (remove c.args.folder.now c.args.name.now) me.core.ready me.memory m _ _ _ p.1 p.2 (remove_unready (memory_view me.core.ready me.memory) m.shown c.args.folder.now c.args.name.now _ c.in_ok-check_name.ensures (ap ready_view c.in_err-g.was));
     }
 
-pub returns-in_ok-commit-in-Ok : goal.returns-in_ok-commit-in-Ok
-returns-in_ok-commit-in-Ok g c =
-    let me = c.args.self.now in
-    let geo = c.in_ok-g.g in
-    let ready = me.core.ready in
-    let is = c.in_ok-g.was in
-    let mem = me.memory in
-    let ms = me.marks in
-    let m = g.D.Device.model me.core.device in
-    let k = g.D.Device.model c.plan_remove.new.device in
-    let n = g.D.Device.model c.commit.new.self.core.device in
-    let knows : Known ready mem ms m → Knows geo mem ms m = is_known ready geo mem ms m is in
+pub invariant_of-self : goal.invariant_of-self
+invariant_of-self g c = (plan_fits g.D.Device.model (remove_planning c.plan_remove-planned.ensures c.in_ok-g.was c.args.self.now.known) c.args.self.now.core.fitting, tt)
+
+pub invariant_of-self-in-Break-branch-3 : goal.invariant_of-self-in-Break-branch-3
+invariant_of-self-in-Break-branch-3 g c = record { known = (plan_refused g.D.Device.model (remove_planning c.plan_remove-planned.ensures c.in_ok-g.was c.args.self.now.known) c.in_err-accepted.ensures refl).known }
+
+pub returns-in_err-accepted : goal.returns-in_err-accepted
+returns-in_err-accepted g c =
+    let p = err_from_is_err_and c.from_residual-in_err-accepted.result c.from_residual-in_err-accepted.ensures.1 in
+    record { changes = (plan_refused g.D.Device.model (remove_planning c.plan_remove-planned.ensures c.in_ok-g.was c.args.self.now.known) c.in_err-accepted.ensures (p.1 ∙ ap Err p.2)).changes }
+
+pub invariant_of-self-in-Break-branch-4 : goal.invariant_of-self-in-Break-branch-4
+invariant_of-self-in-Break-branch-4 g c =
+    record { known = (plan_broken g.D.Device.model (remove_planning c.plan_remove-planned.ensures c.in_ok-g.was c.args.self.now.known) c.in_ok-accepted.ensures tt c.in_ok-accepted.accepted.plan (λ q. q.rule) c.in_err-commit.ensures refl).known }
+
+pub returns-in_err-commit : goal.returns-in_err-commit
+returns-in_err-commit g c =
+    let p = err_from_is_err_and c.from_residual-in_err-commit.result c.from_residual-in_err-commit.ensures.1 in
+    record { changes = (plan_broken g.D.Device.model (remove_planning c.plan_remove-planned.ensures c.in_ok-g.was c.args.self.now.known) c.in_ok-accepted.ensures tt c.in_ok-accepted.accepted.plan (λ q. q.rule) c.in_err-commit.ensures (p.1 ∙ ap Err p.2)).changes }
+
+pub invariant_of-self-2 : goal.invariant_of-self-2
+invariant_of-self-2 g c =
+    let mem = c.args.self.now.memory in
+    let ms = c.args.self.now.marks in
+    let m = g.D.Device.model c.args.self.now.core.device in
+    let s = sizes c.in_ok-g.g in
+    let l = remove_planning c.plan_remove-planned.ensures c.in_ok-g.was c.args.self.now.known in
+    let w = l.knows in
+    let q = (plan_told g.D.Device.model l c.in_ok-accepted.ensures).1 in
+    let child = c.in_ok-accepted.accepted.change.handle in
+    let slot = copied c.in_ok-accepted.accepted.change.slot in
+    let stays = room_stays s ms w.room in
+    let all : count slot - 0 ≡ count slot = omega arith in
+    let marks : c.set_slot.new.self ≡ with_slot (without ms child slot (from 0 (count slot))) child.slot.0 None =
+    c.set_slot.ensures ∙ ap (λ (z : Marks). with_slot z child.slot.0 None) (c.drop_leaves.ensures ∙ ap (λ (i : ℕ). without ms child slot (from 0 i)) all) in
     record {
-      changes = λ v.
-          let w = knows v in
-          let e = c.in-Ok.ensures (grounded geo mem ms m w) in
-          let q = e.1 in
-          let p : Plan (Unit {0}) = plan_view tt geo c.in-Ok.w.plan in
-          let inside = remove_inside (sizes geo) (card_view geo mem) m.shown w.tied k.count (omega (arith, e.0.kept.count, w.fits)) c.args.folder.now c.args.name.now p q.rule in
-          let b = c.in_ok-commit-in-Ok.ensures.commits q.few inside in
-          changes_done (changing.remove c.args.folder.now c.args.name.now) geo ready is mem m p k n _ _ _ q.rule e.0 b.0 b.1 (ap (card_view geo) b.2) refl;
-      valid = λ v.
-          let w = knows v in
-          let e = c.in-Ok.ensures (grounded geo mem ms m w) in
-          let q = e.1 in
-          let p : Plan (Unit {0}) = plan_view tt geo c.in-Ok.w.plan in
-          let inside = remove_inside (sizes geo) (card_view geo mem) m.shown w.tied k.count (omega (arith, e.0.kept.count, w.fits)) c.args.folder.now c.args.name.now p q.rule in
-          let b = c.in_ok-commit-in-Ok.ensures.commits q.few inside in
-          let all : count (copied c.in-Ok.w.slot) - 0 ≡ count (copied c.in-Ok.w.slot) = omega arith in
-          let after = with_slot (without ms c.in-Ok.w.child (copied c.in-Ok.w.slot) (from 0 (count (copied c.in-Ok.w.slot)))) c.in-Ok.w.child.slot.0 None in
-          let marks : c.set_slot.new.self ≡ after = c.set_slot.ensures ∙ ap (λ (z : Marks). with_slot z c.in-Ok.w.child.slot.0 None) (c.drop_leaves.ensures ∙ ap (λ (z : Marks). without z c.in-Ok.w.child (copied c.in-Ok.w.slot) (from 0 (count (copied c.in-Ok.w.slot) - 0))) c.commit.ensures.marks ∙ ap (λ (i : ℕ). without ms c.in-Ok.w.child (copied c.in-Ok.w.slot) (from 0 i)) all) in
-          subst (λ (z : Marks). Known c.commit.new.self.core.ready c.commit.new.self.memory z n) (sym marks)
-          (done_known geo ready _ _ after m k n p is b.1 w.fits e.0 b.0 (ap (card_view geo) b.2)
-          (remove_stays_tied (sizes geo) (card_view geo mem) m.shown c.args.folder.now c.args.name.now p w.tied q.rule)
-          (remove_marks (sizes geo) (card_view geo mem) m.shown c.args.folder.now c.args.name.now p q.folder q.place c.in-Ok.w.child (copied c.in-Ok.w.slot) ms w.tied q.rule q.at q.is q.child q.slot w.marked w.room)
-          ((room_stays (sizes geo) (without ms c.in-Ok.w.child (copied c.in-Ok.w.slot) (from 0 (count (copied c.in-Ok.w.slot)))) ((room_stays (sizes geo) ms w.room).leaves c.in-Ok.w.child (copied c.in-Ok.w.slot) (from 0 (count (copied c.in-Ok.w.slot))))).slot c.in-Ok.w.child.slot.0 None));
+      known = plan_marked g.D.Device.model l c.in_ok-accepted.ensures tt c.in_ok-accepted.accepted.plan (λ q. q.rule) c.in_ok-commit.ensures _ marks
+          (remove_marks s (card_view c.in_ok-g.g mem) m.shown c.args.folder.now c.args.name.now (plan_view tt c.in_ok-g.g c.in_ok-accepted.accepted.plan) q.folder q.place child slot ms w.tied q.rule q.at q.is q.child q.slot w.marked w.room)
+          ((room_stays s (without ms child slot (from 0 (count slot))) (stays.leaves child slot (from 0 (count slot)))).slot child.slot.0 None);
     }
 
-pub returns-in-Err : goal.returns-in-Err
-returns-in-Err g c =
-    let me = c.args.self.now in
-    let geo = c.in_ok-g.g in
-    let ready = me.core.ready in
-    let is = c.in_ok-g.was in
-    let mem = me.memory in
-    let ms = me.marks in
-    let m = g.D.Device.model me.core.device in
-    let k = g.D.Device.model c.plan_remove.new.device in
-    let knows : Known ready mem ms m → Knows geo mem ms m = is_known ready geo mem ms m is in
-    let r = c.refuse.ensures in
-    let quiet = remove_quiet (sizes geo) (card_view geo mem) refl m.shown c.args.folder.now c.args.name.now in
-    record {
-      changes = λ v.
-          let w = knows v in
-          changes_refused (changing.remove c.args.folder.now c.args.name.now) geo ready is mem m _ k _ _ _ w.fits quiet r.0 (ap g.D.Device.model r.1) r.2 (c.in-Err.ensures (grounded geo mem ms m w));
-      valid = λ v.
-          let w = knows v in
-          refused_known (changing.remove c.args.folder.now c.args.name.now (card_view geo mem) m.shown) geo ready _ mem ms m k _ _ w.fits (ap g.D.Device.model r.1) r.2 quiet (c.in-Err.ensures (grounded geo mem ms m w)) v;
-    }
+pub returns : goal.returns
+returns g c = record { changes = plan_done g.D.Device.model (remove_planning c.plan_remove-planned.ensures c.in_ok-g.was c.args.self.now.known) c.in_ok-accepted.ensures tt c.in_ok-accepted.accepted.plan (λ q. q.rule) c.in_ok-commit.ensures }
