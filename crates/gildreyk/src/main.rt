@@ -2,6 +2,7 @@
 #![tactic(auto)]
 
 use anyhow::anyhow;
+use std::rt::Runtime;
 use std::{env, fs};
 
 mod blocks;
@@ -16,7 +17,7 @@ const HELP: &str = "gildreyk: looks into a stand's card
   gildreyk help           this text";
 
 // The bytes of the image that the word behind a command names.
-fn load(rt: &HostRuntime, command: &str, name: Option<String>) -> anyhow::Result<Vec<u8>> {
+fn load(rt: &impl Runtime, command: &str, name: Option<String>) -> anyhow::Result<Vec<u8>> {
     match name {
         Some(path) => Ok(fs::read(rt, path.as_str())?),
         None => Err(anyhow!("{command}: name an image")),
@@ -24,7 +25,7 @@ fn load(rt: &HostRuntime, command: &str, name: Option<String>) -> anyhow::Result
 }
 
 // Does what the words of the command line ask for.
-fn run(rt: &HostRuntime) -> anyhow::Result<()> {
+fn run(rt: &impl Runtime) -> anyhow::Result<()> {
     let mut words = env::args(rt)?;
     let _program = words.next();
     let Some(command) = words.next() else {
