@@ -4,3 +4,4 @@
 pub mod number;
 pub mod owner;
 pub mod refusal;
+pub mod text;

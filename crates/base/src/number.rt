@@ -1,7 +1,7 @@
 // Four kinds of number. Each has a struct of its own, so that one never stands in for another.
 
 // The number of a block of a device, from 0.
-#[derive(Clone, Copy, PartialEq, Eq, PartialOrd, Ord, Hash, Debug)]
+#[derive(Clone, Copy, Default, PartialEq, Eq, PartialOrd, Ord, Hash, Debug)]
 pub struct BlockNo(pub u16);
 
 // The number of a slot of a card, from 0: slot s lies in block 1 + s. A slot is what other file systems call an inode.

@@ -1,19 +1,18 @@
 -- What the steps of a buffered card do to its model.
-use Rattle.std.proofs.Common.{◌≡◌, ℕ, ◌<◌, Bool, true, false, ◌⊎◌, List, length, set, Some, None, Ok, Err, Option, Result, sym, refl, ap, ◌∙◌, subst, inl, inr, ⊎_elim, arith, length-set}
+use Rattle.std.proofs.Common.{◌≡◌, ℕ, ◌<◌, Bool, true, false, ◌⊎◌, List, length, set, Some, None, Ok, Err, Option, Result, is_err, sym, refl, ap, ◌∙◌, subst, inl, inr, ⊎_elim, arith}
 use mathlib.Core.Path.{fun_ext}
 use Rattle.base.specs.declared.number.BlockNo.{BlockNo}
 use Rattle.device.specs.Model.{Model, Block, In, Stands, Is, Kept, Stayed, Lost, Written, Torn, Cut, put}
-use Rattle.device.specs.Answers.{ReadFault, WriteFault, SyncAnswer, SyncFault, power_gone}
+use Rattle.device.specs.Answers.{Read, ReadFault, Write, WriteFault, SyncAnswer, Sync, power_gone}
 use Rattle.device.specs.declared.put.Put.{Put}
 use Rattle.device.specs.declared.fault.Fault.{Fault}
 use Rattle.device.specs.declared.fault.Fault.TheVariants.{PowerGone, NoSuchBlock}
 use Rattle.device.specs.declared.fault.Synced.{Synced}
 use Rattle.device.specs.declared.fault.Synced.TheVariants.{Settled as SettledAnswer, Unsure}
-use Rattle.buffered.specs.Buffered.{Table, buffered, over, standing, at_place, Used, Holds, block_of, number, contents, Found, Absent, Vacant, Full, Top, Empty, Inside, waiting}
-use Rattle.buffered.specs.Steps.{put_of, Alone, Unsent, Stored, replaced, added, evicted, Accepted, WriteRefused, none, more, SyncBy}
-use Rattle.buffered.specs.Inner.{SentDown, Halted, Made, own, free, emptied, Placed, NoPlace, Sending}
-use Rattle.buffered.proofs.Tables.{Waits, standing_cases, standing_below, standing_waits, over_sent, waits_sent, waits_place, over_hidden, over_filled, waits_filled, over_found, over_absent, over_empty, waits_empty, used_within, holds_sent, unused_sent, waiting_sent, inside_sent, inside_filled}
-use Rattle.device.specs.Answers.{Sync}
+use Rattle.buffered.specs.Buffered.{Table, buffered, over, standing, at_place, Used, Holds, block_of, number, contents, Found, Absent, Top, Empty, Inside, waiting}
+use Rattle.buffered.specs.Steps.{put_of, Alone, met, Unsent, Stored, replaced, added, evicted, Accepted, none, more, SyncBy}
+use Rattle.buffered.specs.Inner.{TopPut, SentDown, Halted, Made, own, free, emptied, Placed, Sending}
+use Rattle.buffered.proofs.Tables.{Waits, standing_cases, standing_below, standing_waits, over_sent, waits_sent, waits_place, over_hidden, over_filled, waits_filled, over_found, over_absent, over_empty, waits_empty, waiting_sent}
 
 -- what may stand at the card, case by case
 standing_to : (ws : Table) (s : ℕ → List Block) (b : ℕ) (x : Block) → In x (s b) ⊎ Waits ws b x → In x (standing ws s b)
@@ -82,20 +81,28 @@ lost_below : (ws : Table) (g : Bool) (m n : Model) → Kept m n → Lost (buffer
 lost_below ws g m n k = record { kept = kept_below ws g true m n k; off = refl }
 
 -- the answer of the device below to the block that was sent down
-module _ (ws : Table) (m n : Model) (i : ℕ) (top : Top ws i) (w : Put) (is : at_place ws i ≡ Some w) (g : Bool) where
-  pub sent_from : g ≡ false → Written w.block.0 w.bytes m n → SentDown ws i (set ws i None) g g m n
-  sent_from on h =
+module _ (ws : Table) (m n : Model) (i : ℕ) (w : Put) (first : TopPut ws i w) (g : Bool) where
+  abbrev top : Top ws i
+  top = first.top
+
+  abbrev is : at_place ws i ≡ Some w
+  is = first.is
+
+  pub sent_from : {U : Type 0} (r : Result U Fault) → is_err r ≡ false → g ≡ false → Write w.block w.bytes r m n → SentDown ws i (set ws i None) g g m n
+  sent_from (Ok u) e on h =
       let here : Written (number (at_place ws i)) (contents (at_place ws i)) m n = rw is h in
       record { sent = record { top = top; below = here; table = refl }; gone = refl; stayed = stayed_sent ws m n i top g on here }
+  sent_from (Err f) e on h = absurd (cc)
 
   lost_from : (e : Fault) → WriteFault (block_of (at_place ws i)) (contents (at_place ws i)) m n e → Lost (buffered ws g m) (buffered ws true n)
   lost_from (PowerGone p) h = ⊎_elim (λ l. lost_below ws g m n l.kept) (lost_torn ws m n i top g) h.1
   lost_from (NoSuchBlock p) h = lost_below ws g m n h.stayed.kept
 
-  pub halted_from : (e : Fault) → WriteFault w.block w.bytes m n e → Halted ws i ws g true m n
-  halted_from e h =
-      let here : WriteFault (block_of (at_place ws i)) (contents (at_place ws i)) m n e = rw is h in
-      record { table = refl; gone = refl; fault = e; below = here; lost = lost_from e here }
+  pub halted_from : {U : Type 0} (r : Result U Fault) → is_err r ≡ true → Write w.block w.bytes r m n → Halted ws i ws g true m n
+  halted_from (Ok u) e h = absurd (cc)
+  halted_from (Err f) e h =
+      let here : WriteFault (block_of (at_place ws i)) (contents (at_place ws i)) m n f = rw is h in
+      record { table = refl; gone = refl; fault = f; below = here; lost = lost_from f here }
 
 -- where every waiting block is one of the device's, only power gone refuses it
 unsent_by : (ws vs : Table) (i : ℕ) (h : Bool) (m n : Model) → Top ws i → Inside ws m.count → vs ≡ ws → h ≡ true → (e : Fault) → WriteFault (block_of (at_place ws i)) (contents (at_place ws i)) m n e → Unsent ws i vs h m n
@@ -107,41 +114,8 @@ unsent ws vs i g h m n top inside d = unsent_by ws vs i h m n top inside d.table
 
 -- ---- a place for a block
 
-pub full_not_empty : (ws : Table) → Full ws → Empty ws → ⊥
-full_not_empty ws f e = let u = f 0 (omega arith) in e 0 (used_within ws 0 u) u
-
 pub same_stayed : (ws : Table) (g : Bool) (m : Model) → g ≡ false → Stayed (buffered ws g m) (buffered ws g m)
 same_stayed ws g m on = record { kept = record { count = refl; shown = refl; stands = λ i x s. s }; was_on = rw on; on = rw on }
-
-module _ (ws : Table) (b i : ℕ) (g : Bool) (on : g ≡ false) (m : Model) where
-  pub placed_own : Found ws b i → Placed ws b i ws g g m m
-  placed_own f = record {
-    fits = record { small = f.small; within = f.within; before = f.first; here = λ u. sym (held_is_used (at_place ws i) b f.here).1 };
-    gone = refl;
-    made = own f refl refl;
-    stayed = same_stayed ws g m on;
-  }
-
-  pub placed_free : Absent ws b → Vacant ws i → Placed ws b i ws g g m m
-  placed_free a v = record {
-    fits = record { small = v.small; within = v.within; before = λ k l q. a k (omega (arith, v.within)) q; here = λ u. absurd (v.here u) };
-    gone = refl;
-    made = free a v refl refl;
-    stayed = same_stayed ws g m on;
-  }
-
-pub placed_emptied : (ws vs : Table) (b i : ℕ) (g h : Bool) (m n : Model) → Full ws → Absent ws b → SentDown ws i vs g h m n → Placed ws b i vs g h m n
-placed_emptied ws vs b i g h m n full absent s = record {
-  made = emptied absent full s.sent;
-  fits = rw s.sent.table (record {
-    small = s.sent.top.small;
-    within = rw length-set s.sent.top.within;
-    before = λ k l q. let p = holds_sent ws i k b q in absent k (used_within ws k (held_is_used (at_place ws k) b p).0) p;
-    here = λ u. absurd (unused_sent ws i u);
-  });
-  gone = s.gone;
-  stayed = s.stayed;
-}
 
 -- ---- reading
 
@@ -162,13 +136,15 @@ fault_below ws g m n b (NoSuchBlock p) on h = record {
   stayed = record { kept = kept_below ws g false m n h.stayed.kept; was_on = rw on; on = refl };
 }
 
-pub read_fault : (ws : Table) (g t : Bool) (m n : Model) (b : BlockNo) (e : Fault) → g ≡ false → t ≡ power_gone e → ReadFault b m n e → ReadFault b (buffered ws g m) (buffered ws t n) e
-read_fault ws g t m n b e on is h =
+-- the answer of the device below to a block that does not wait
+pub read_below : (ws : Table) (g t : Bool) (m n : Model) (b : BlockNo) (r : Result Block Fault) → g ≡ false → t ≡ met r → b.0 < m.count → Absent ws b.0 → Read b r m n → Read b r (buffered ws g m) (buffered ws t n)
+read_below ws g t m n b (Ok x) on is l absent h = record {
+  within = l;
+  bytes = read_absent ws m b.0 x absent h.bytes;
+  stayed = rw (is ∙ sym on) (stayed_below ws g m n on h.stayed);
+}
+read_below ws g t m n b (Err e) on is l absent h =
     subst (λ (x : Bool). ReadFault b (buffered ws g m) (buffered ws x n) e) (sym is) (fault_below ws g m n b e on h)
-
-pub read_count : (m n : Model) (b : BlockNo) (e : Fault) → ReadFault b m n e → n.count ≡ m.count
-read_count m n b (PowerGone p) h = h.1.kept.count
-read_count m n b (NoSuchBlock p) h = h.stayed.kept.count
 
 -- ---- writing
 
@@ -200,30 +176,12 @@ pub accepted_placed : (ws vs : Table) (at : BlockNo) (c : Block) (i : ℕ) (g h 
 accepted_placed ws vs at c i g h m n on p =
     record { was = on; gone = p.gone ∙ on; stored = stored_by ws vs at c i m n p.made }
 
-inside_made : (ws vs : Table) (b i : ℕ) (m n : Model) → Made ws b i vs m n → (l : ℕ) → Inside ws l → Inside vs l
-inside_made ws vs b i m n (own f e q) l h = rw e h
-inside_made ws vs b i m n (free a v e q) l h = rw e h
-inside_made ws vs b i m n (emptied a f s) l h = rw s.table (inside_sent ws i l h)
-
-pub inside_placed : (ws vs : Table) (at : BlockNo) (c : Block) (i : ℕ) (g h : Bool) (m n : Model) → at.0 < m.count → Placed ws at.0 i vs g h m n → Inside ws m.count → Inside (set vs i (put_of at c)) n.count
-inside_placed ws vs at c i g h m n l p inside =
-    rw p.stayed.kept.count
-    (inside_filled vs (record { block = at; bytes = c }) i m.count l (inside_made ws vs at.0 i m n p.made m.count inside))
-
-pub refused_place : (ws vs : Table) (at : BlockNo) (g h : Bool) (m n : Model) → NoPlace ws at.0 vs g h m n → Inside ws m.count → WriteRefused at ws vs g h m n (PowerGone at)
-refused_place ws vs at g h m n p inside =
-    (refl, inr (p.place, p.absent, p.full, unsent ws vs p.place g h m n p.top inside p.halted))
-
-pub inside_halted : (ws vs : Table) (i : ℕ) (g h : Bool) (m n : Model) → Halted ws i vs g h m n → Inside ws m.count → Inside vs n.count
-inside_halted ws vs i g h m n d inside = rw (d.table, d.lost.kept.count) inside
-
 -- ---- syncing
 
 -- all that a sync promises
 pub record SyncEnds (r : Result Synced Fault) (ws vs : Table) (g h : Bool) (m n : Model) : Type 0 where
   pub answer : Sync r (buffered ws g m) (buffered vs h n)
-  pub exact : Inside ws m.count → SyncBy r ws vs g h m n
-  pub inside : Inside ws m.count → Inside vs n.count
+  pub exact : SyncBy r ws vs g h m n
 
 kept_trans : (m k n : Model) → Kept m k → Kept k n → Kept m n
 kept_trans m k n a b = record {
@@ -241,11 +199,8 @@ lost_after m k n a b = record { kept = kept_trans m k n a.kept b.kept; off = b.o
 pub fewer_wait : (ws vs : Table) (i : ℕ) (g h : Bool) (m n : Model) → SentDown ws i vs g h m n → waiting vs < waiting ws
 fewer_wait ws vs i g h m n s = rw s.sent.table (waiting_sent ws i s.sent.top.here)
 
-inside_down : (ws vs : Table) (i : ℕ) (g h : Bool) (m n : Model) → SentDown ws i vs g h m n → Inside ws m.count → Inside vs n.count
-inside_down ws vs i g h m n s inside = rw (s.sent.table, s.stayed.kept.count) (inside_sent ws i m.count inside)
-
 pub sending_none : (ws : Table) (g : Bool) (m : Model) → g ≡ false → Sending ws g m ws g m
-sending_none ws g m on = record { gone = on; stayed = same_stayed ws g m on; drained = none refl refl; inside = λ q. q }
+sending_none ws g m on = record { gone = on; stayed = same_stayed ws g m on; drained = none refl refl }
 
 -- the card was ws, g and m; some blocks went down, which left us, f and k
 module _ (ws : Table) (g : Bool) (m : Model) (us : Table) (f : Bool) (k : Model) (so_far : Sending ws g m us f k) where
@@ -257,15 +212,13 @@ module _ (ws : Table) (g : Bool) (m : Model) (us : Table) (f : Bool) (k : Model)
     gone = s.gone ∙ so_far.gone;
     stayed = stayed_trans start (buffered us f k) (buffered vs h n) so_far.stayed s.stayed;
     drained = more so_far.drained s.sent;
-    inside = λ q. inside_down us vs i f h k n s (so_far.inside q);
   }
 
   -- one could not be sent down
-  pub sync_halted : (i : ℕ) (vs : Table) (h : Bool) (n : Model) (p : BlockNo) → p.0 ≡ 65535 → Top us i → Halted us i vs f h k n → SyncEnds (Err (PowerGone p)) ws vs g h m n
-  sync_halted i vs h n p is top d = record {
+  pub sync_halted : (i : ℕ) (vs : Table) (h : Bool) (n : Model) (p : BlockNo) → p.0 ≡ 65535 → Top us i → Inside us k.count → Halted us i vs f h k n → SyncEnds (Err (PowerGone p)) ws vs g h m n
+  sync_halted i vs h n p is top inside d = record {
     answer = (is, lost_after start (buffered us f k) (buffered vs h n) so_far.stayed d.lost);
-    exact = λ q. (is, inr (inl (us, k, i, so_far.drained, unsent us vs i f h k n top (so_far.inside q) d)));
-    inside = λ q. inside_halted us vs i f h k n d (so_far.inside q);
+    exact = (is, inr (inl (us, k, i, so_far.drained, unsent us vs i f h k n top inside d)));
   }
 
   -- all were sent down, and the device below was asked to sync
@@ -282,27 +235,20 @@ module _ (ws : Table) (g : Bool) (m : Model) (us : Table) (f : Bool) (k : Model)
     answer_below Unsure s =
         stayed_trans start (buffered us f k) (buffered us f n) so_far.stayed (stayed_below us f k n so_far.gone s)
 
-    count_below : (a : Synced) → SyncAnswer k n a → n.count ≡ k.count
-    count_below SettledAnswer s = s.stayed.kept.count
-    count_below Unsure s = s.kept.count
-
-    pub sync_answered : g ≡ false → (a : Synced) → SyncAnswer k n a → SyncEnds (Ok a) ws us g f m n
-    sync_answered on a s = record {
-      answer = answer_below a s;
-      exact = λ q. record { was = on; gone = so_far.gone; then = k; asked = record { drained = so_far.drained; empty = empty }; below = s };
-      inside = λ q. rw (count_below a s) (so_far.inside q);
+    sync_ended : (r : Result Synced Fault) → g ≡ false → Sync r k n → SyncEnds r ws us g (met r) m n
+    sync_ended (Ok a) on s = record {
+      answer = rw so_far.gone at (answer_below a s);
+      exact = record { was = on; gone = refl; then = k; asked = record { drained = so_far.drained; empty = empty }; below = s };
     }
-
-    fault_below_sync : (e : Fault) → SyncFault k n e → SyncEnds (Err e) ws us g (power_gone e) m n
-    fault_below_sync (PowerGone p) h = record {
+    sync_ended (Err (PowerGone p)) on h = record {
       answer = (h.0, lost_after start (buffered us f k) (buffered us true n) so_far.stayed (lost_below us f k n h.1.kept));
-      exact = λ q. (h.0, inr (inr (k, record { drained = so_far.drained; empty = empty }, h, refl)));
-      inside = λ q. rw h.1.kept.count (so_far.inside q);
+      exact = (h.0, inr (inr (k, record { drained = so_far.drained; empty = empty }, h, refl)));
     }
-    fault_below_sync (NoSuchBlock p) h = absurd h
+    sync_ended (Err (NoSuchBlock p)) on h = absurd h
 
-    pub sync_refused : (t : Bool) (e : Fault) → t ≡ power_gone e → SyncFault k n e → SyncEnds (Err e) ws us g t m n
-    sync_refused t e is h = subst (λ (x : Bool). SyncEnds (Err e) ws us g x m n) (sym is) (fault_below_sync e h)
+    pub sync_answered : (t : Bool) (r : Result Synced Fault) → g ≡ false → t ≡ met r → Sync r k n → SyncEnds r ws us g t m n
+    sync_answered t r on is s =
+        subst (λ (x : Bool). SyncEnds r ws us g x m n) (sym is) (sync_ended r on s)
 
 -- ---- a cut
 

@@ -3,7 +3,7 @@ use Rattle.std.proofs.Common.{◌≡◌, ℕ, zero, suc, ◌<◌, Bool, true, fa
 use Rattle.std.proofs.lemmas.Bool.{eqb-true, eq-eqb, ne_eqb, cases_eq}
 use Rattle.std.proofs.lemmas.Bool.Decides.{nat_tests}
 use Rattle.device.specs.Model.{In, put}
-use Rattle.buffered.specs.Buffered.{Table, over, standing, at_place, Used, number, contents, Holds, Found, Absent, Empty, Inside, waiting}
+use Rattle.buffered.specs.Buffered.{Table, over, standing, at_place, Used, number, contents, Holds, Found, Absent, Empty, waiting}
 use Rattle.device.specs.declared.put.Put.{Put}
 
 -- x waits for block b
@@ -159,39 +159,3 @@ waiting_sent (None ∷ ws) zero u = absurd u
 waiting_sent (Some v ∷ ws) zero u = omega arith
 waiting_sent (None ∷ ws) (suc i) u = waiting_sent ws i u
 waiting_sent (Some v ∷ ws) (suc i) u = omega (arith, waiting_sent ws i u)
-
-pub used_within : (ws : Table) (k : ℕ) → Used (at_place ws k) → k < length ws
-used_within [] k u = absurd u
-used_within (o ∷ ws) zero u = omega arith
-used_within (o ∷ ws) (suc k) u = omega (arith, used_within ws k u)
-
--- a place after another was emptied
-pub holds_sent : (ws : Table) (i k b : ℕ) → Holds (at_place (set ws i None) k) b → Holds (at_place ws k) b
-holds_sent [] i k b h = h
-holds_sent (o ∷ ws) zero zero b h = absurd h
-holds_sent (o ∷ ws) zero (suc k) b h = h
-holds_sent (o ∷ ws) (suc i) zero b h = h
-holds_sent (o ∷ ws) (suc i) (suc k) b h = holds_sent ws i k b h
-
-pub unused_sent : (ws : Table) (i : ℕ) → Used (at_place (set ws i None) i) → ⊥
-unused_sent [] i u = u
-unused_sent (o ∷ ws) zero u = u
-unused_sent (o ∷ ws) (suc i) u = unused_sent ws i u
-
-pub unwaiting_sent : (ws : Table) (i k : ℕ) → Used (at_place (set ws i None) k) → Used (at_place ws k) × (number (at_place (set ws i None) k) ≡ number (at_place ws k))
-unwaiting_sent [] i k u = (u, refl)
-unwaiting_sent (o ∷ ws) zero zero u = absurd u
-unwaiting_sent (o ∷ ws) zero (suc k) u = (u, refl)
-unwaiting_sent (o ∷ ws) (suc i) zero u = (u, refl)
-unwaiting_sent (o ∷ ws) (suc i) (suc k) u = unwaiting_sent ws i k u
-
--- every block that waits stays one of the device's
-pub inside_sent : (ws : Table) (i n : ℕ) → Inside ws n → Inside (set ws i None) n
-inside_sent ws i n h k u = let p = unwaiting_sent ws i k u in rw p.1 (h k p.0)
-
-pub inside_filled : (ws : Table) (w : Put) (i n : ℕ) → w.block.0 < n → Inside ws n → Inside (set ws i (Some w)) n
-inside_filled [] w i n l h k u = h k u
-inside_filled (o ∷ ws) w zero n l h zero u = l
-inside_filled (o ∷ ws) w zero n l h (suc k) u = h (suc k) u
-inside_filled (o ∷ ws) w (suc i) n l h zero u = h zero u
-inside_filled (o ∷ ws) w (suc i) n l h (suc k) u = inside_filled ws w i n l (λ j v. h (suc j) v) k u

@@ -1,10 +1,21 @@
 -- What the private functions of the buffered card say.
-use Rattle.std.specs.Prelude.{◌≡◌, ℕ, ◌<◌, Bool, true, false, length}
+use Rattle.std.specs.Prelude.{◌≡◌, ℕ, ◌<◌, Bool, true, false, length, Some}
 use Rattle.device.specs.Model.{Model, Stayed, Lost}
 use Rattle.device.specs.Answers.{WriteFault}
+use Rattle.device.specs.declared.put.Put.{Put}
 use Rattle.device.specs.declared.fault.Fault.{Fault}
-use Rattle.buffered.specs.Buffered.{Table, buffered, at_place, Used, Holds, block_of, number, contents, Found, Absent, Vacant, Full, Top, Inside}
+use Rattle.buffered.specs.Buffered.{Table, buffered, at_place, Used, Holds, block_of, number, contents, Found, Absent, Vacant, Full, Top}
 use Rattle.buffered.specs.Steps.{Sent, Drained}
+
+-- block b waits first at place i, as w
+pub record FoundPut (ws : Table) (b i : ℕ) (w : Put) : Type 0 where
+  pub found : Found ws b i
+  pub is : at_place ws i ≡ Some w
+
+-- w waits at place i, and is the highest
+pub record TopPut (ws : Table) (i : ℕ) (w : Put) : Type 0 where
+  pub top : Top ws i
+  pub is : at_place ws i ≡ Some w
 
 -- the waiting block at place i went down, and the card as a whole stayed as it was
 pub record SentDown (ws : Table) (i : ℕ) (vs : Table) (g h : Bool) (m n : Model) : Type 0 where
@@ -52,4 +63,3 @@ pub record Sending (ws : Table) (g : Bool) (m : Model) (vs : Table) (h : Bool) (
   pub gone : h ≡ false
   pub stayed : Stayed (buffered ws g m) (buffered vs h n)
   pub drained : Drained ws m vs n
-  pub inside : Inside ws m.count → Inside vs n.count

@@ -2,28 +2,28 @@
 ghost use Rattle.std.specs.Prelude.{◌≡◌, true, false, MatchResult};
 ghost use Rattle.device.specs.Answers.{Read, Write, Sync};
 ghost use Rattle.device.specs.declared.fault.Fault.TheVariants.{PowerGone};
-ghost use Rattle.buffered.specs.Buffered.{buffered, Empty, Top, Inside};
-ghost use Rattle.buffered.specs.Inner.{Placed, NoPlace, Halted, SentDown};
+ghost use Rattle.buffered.specs.Buffered.{buffered, Empty, Inside};
+ghost use Rattle.buffered.specs.Inner.{TopPut, Placed, NoPlace, Halted, SentDown};
 ghost use Rattle.buffered.specs.Steps.{ReadBy, WriteBy, SyncBy};
 
-use crate::table::{find, highest, vacant, waiting_at};
+use crate::table::{Waiting, find, highest, vacant};
 use base::number::BlockNo;
 use device::Device;
 use device::fault::{Fault, Synced, WHOLE};
 use device::put::Put;
 
 #[derive(Drop)]
-pub struct Buffered<D> {
+pub struct Buffered<D: Device> {
     below: D,
     table: [Option<Put>; 8],
     gone: bool,
+    pub ghost inside: { Inside table (D.Device.model below).count },
 }
 
 impl<D: Device> Buffered<D> {
     // A card over `below` on which nothing waits.
     pub fn new(below: D) -> Buffered<D>
-        ensures new { (result.below ≡ below) × (result.gone ≡ false) × Empty result.table }
-        ensures inside { Inside result.table (D.Device.model below).count }
+        ensures { (result.below ≡ below) × (result.gone ≡ false) × Empty result.table }
     {
         Buffered {
             below,
@@ -40,44 +40,39 @@ impl<D: Device> Buffered<D> {
     }
 
     // Sends down the highest waiting block, in the course of a call about the block `call`.
-    fn send_down(&mut self, i: usize, call: BlockNo) -> Result<(), Fault>
-        requires { (Top self.old.table i) × (self.old.gone ≡ false) }
-        ensures { MatchResult result (λ _. SentDown self.old.table i self.new.table self.old.gone self.new.gone (D.Device.model self.old.below) (D.Device.model self.new.below)) (λ e. (e ≡ PowerGone call) × Halted self.old.table i self.new.table self.old.gone self.new.gone (D.Device.model self.old.below) (D.Device.model self.new.below)) }
+    fn send_down(&mut self, top: Waiting, call: BlockNo) -> Result<(), Fault>
+        requires { (TopPut self.old.table top.place top.put) × (self.old.gone ≡ false) }
+        ensures { MatchResult result (λ _. SentDown self.old.table top.place self.new.table self.old.gone self.new.gone (D.Device.model self.old.below) (D.Device.model self.new.below)) (λ e. (e ≡ PowerGone call) × Halted self.old.table top.place self.new.table self.old.gone self.new.gone (D.Device.model self.old.below) (D.Device.model self.new.below)) }
     {
-        let put = waiting_at(&self.table, i);
-        match self.below.write(put.block, &put.bytes) {
-            Ok(()) => {
-                self.table[i] = None;
-                Ok(())
-            }
-            Err(_) => {
-                self.gone = true;
-                Err(Fault::PowerGone(call))
-            }
+        if self.below.write(top.put.block, &top.put.bytes).is_err() {
+            self.gone = true;
+            return Err(Fault::PowerGone(call));
         }
+        self.table[top.place] = None;
+        Ok(())
     }
 
     // A place for a block: its own, or a free one, or the one that the highest block leaves.
+    // Kept: that the power is on is asked of the two steps inside a call; the card itself may have lost it.
     fn place(&mut self, at: BlockNo) -> Result<usize, Fault>
         requires { self.old.gone ≡ false }
         ensures { MatchResult result (λ i. Placed self.old.table at.0 i self.new.table self.old.gone self.new.gone (D.Device.model self.old.below) (D.Device.model self.new.below)) (λ e. (e ≡ PowerGone at) × NoPlace self.old.table at.0 self.new.table self.old.gone self.new.gone (D.Device.model self.old.below) (D.Device.model self.new.below)) }
     {
-        if let Some(i) = find(&self.table, at) {
-            return Ok(i);
+        if let Some(own) = find(&self.table, at) {
+            return Ok(own.place);
         }
         if let Some(i) = vacant(&self.table) {
             return Ok(i);
         }
-        let Some(i) = highest(&self.table) else {
+        let Some(top) = highest(&self.table) else {
             unreachable()
         };
-        self.send_down(i, at)?;
-        Ok(i)
+        self.send_down(top, at)?;
+        Ok(top.place)
     }
 }
 
 // Beside what every device promises, each call says by whom it was answered, what went down and what waits after.
-// `Inside` says that each waiting block is one of the device below: it holds of a new card, and every call keeps it.
 impl<D: Device> Device for Buffered<D> {
     ghost model = { λ s. buffered s.table s.gone (D.Device.model s.below) };
 
@@ -88,7 +83,6 @@ impl<D: Device> Device for Buffered<D> {
     fn read(&mut self, at: BlockNo) -> Result<[u8; 512], Fault>
         ensures answer { Read at result (buffered self.old.table self.old.gone (D.Device.model self.old.below)) (buffered self.new.table self.new.gone (D.Device.model self.new.below)) }
         ensures exact { ReadBy at result self.old.table self.new.table self.old.gone self.new.gone (D.Device.model self.old.below) (D.Device.model self.new.below) }
-        ensures inside { Inside self.old.table (D.Device.model self.old.below).count → Inside self.new.table (D.Device.model self.new.below).count }
     {
         if self.gone {
             return Err(Fault::PowerGone(at));
@@ -96,22 +90,17 @@ impl<D: Device> Device for Buffered<D> {
         if at.0 >= self.below.count() {
             return Err(Fault::NoSuchBlock(at));
         }
-        if let Some(i) = find(&self.table, at) {
-            return Ok(waiting_at(&self.table, i).bytes);
+        if let Some(waiting) = find(&self.table, at) {
+            return Ok(waiting.put.bytes);
         }
-        match self.below.read(at) {
-            Ok(bytes) => Ok(bytes),
-            Err(e) => {
-                self.gone = e.is_power_gone();
-                Err(e)
-            }
-        }
+        let answer = self.below.read(at);
+        self.gone = matches!(answer, Err(Fault::PowerGone(_)));
+        answer
     }
 
     fn write(&mut self, at: BlockNo, bytes: &[u8; 512]) -> Result<(), Fault>
         ensures answer { Write at bytes.now result (buffered self.old.table self.old.gone (D.Device.model self.old.below)) (buffered self.new.table self.new.gone (D.Device.model self.new.below)) }
-        ensures exact { Inside self.old.table (D.Device.model self.old.below).count → WriteBy at bytes.now result self.old.table self.new.table self.old.gone self.new.gone (D.Device.model self.old.below) (D.Device.model self.new.below) }
-        ensures inside { Inside self.old.table (D.Device.model self.old.below).count → Inside self.new.table (D.Device.model self.new.below).count }
+        ensures exact { WriteBy at bytes.now result self.old.table self.new.table self.old.gone self.new.gone (D.Device.model self.old.below) (D.Device.model self.new.below) }
     {
         if self.gone {
             return Err(Fault::PowerGone(at));
@@ -129,21 +118,16 @@ impl<D: Device> Device for Buffered<D> {
 
     fn sync(&mut self) -> Result<Synced, Fault>
         ensures answer { Sync result (buffered self.old.table self.old.gone (D.Device.model self.old.below)) (buffered self.new.table self.new.gone (D.Device.model self.new.below)) }
-        ensures exact { Inside self.old.table (D.Device.model self.old.below).count → SyncBy result self.old.table self.new.table self.old.gone self.new.gone (D.Device.model self.old.below) (D.Device.model self.new.below) }
-        ensures inside { Inside self.old.table (D.Device.model self.old.below).count → Inside self.new.table (D.Device.model self.new.below).count }
+        ensures exact { SyncBy result self.old.table self.new.table self.old.gone self.new.gone (D.Device.model self.old.below) (D.Device.model self.new.below) }
     {
         if self.gone {
             return Err(Fault::PowerGone(WHOLE));
         }
-        while let Some(i) = highest(&self.table) {
-            self.send_down(i, WHOLE)?;
+        while let Some(top) = highest(&self.table) {
+            self.send_down(top, WHOLE)?;
         }
-        match self.below.sync() {
-            Ok(answer) => Ok(answer),
-            Err(e) => {
-                self.gone = e.is_power_gone();
-                Err(e)
-            }
-        }
+        let answer = self.below.sync();
+        self.gone = matches!(answer, Err(Fault::PowerGone(_)));
+        answer
     }
 }

@@ -1,19 +1,27 @@
 // The table of waiting blocks: 8 places, each free or with one block.
 ghost use Rattle.std.specs.Prelude.{◌≡◌, ◌<◌, Some, MatchOption};
-ghost use Rattle.buffered.specs.Buffered.{Found, Absent, Vacant, Full, Top, Empty, Used, at_place};
+ghost use Rattle.buffered.specs.Buffered.{Absent, Vacant, Full, Empty};
+ghost use Rattle.buffered.specs.Inner.{FoundPut, TopPut};
 
 use base::number::BlockNo;
 use device::put::Put;
 
-// The first place at which a block waits.
-pub(crate) fn find(table: &[Option<Put>; 8], at: BlockNo) -> Option<usize>
-    ensures { MatchOption result (Absent table.now at.0) (Found table.now at.0) }
+// A block that waits, and its place.
+#[derive(Clone, Copy, PartialEq, Eq, Debug)]
+pub(crate) struct Waiting {
+    pub(crate) place: usize,
+    pub(crate) put: Put,
+}
+
+// A block as it waits at the first place that has it.
+pub(crate) fn find(table: &[Option<Put>; 8], at: BlockNo) -> Option<Waiting>
+    ensures { MatchOption result (Absent table.now at.0) (λ w. FoundPut table.now at.0 w.place w.put) }
 {
-    for i in 0..8 {
-        if let Some(put) = table[i] {
-            if put.block.0 == at.0 {
-                return Some(i);
-            }
+    for (place, waiting) in table.iter().enumerate() {
+        if let Some(put) = waiting
+            && put.block == at
+        {
+            return Some(Waiting { place, put: *put });
         }
     }
     None
@@ -23,38 +31,22 @@ pub(crate) fn find(table: &[Option<Put>; 8], at: BlockNo) -> Option<usize>
 pub(crate) fn vacant(table: &[Option<Put>; 8]) -> Option<usize>
     ensures { MatchOption result (Full table.now) (Vacant table.now) }
 {
-    for i in 0..8 {
-        if table[i].is_none() {
-            return Some(i);
-        }
-    }
-    None
+    table.iter().position(Option::is_none)
 }
 
-// The place of the waiting block with the highest number.
-pub(crate) fn highest(table: &[Option<Put>; 8]) -> Option<usize>
-    ensures { MatchOption result (Empty table.now) (Top table.now) }
+// The waiting block with the highest number.
+pub(crate) fn highest(table: &[Option<Put>; 8]) -> Option<Waiting>
+    ensures { MatchOption result (Empty table.now) (λ w. TopPut table.now w.place w.put) }
 {
-    let mut best = None;
-    let mut top = 0;
-    for i in 0..8 {
-        if let Some(put) = table[i] {
-            if put.block.0 >= top {
-                best = Some(i);
-                top = put.block.0;
-            }
+    let mut best: Option<Waiting> = None;
+    for (place, waiting) in table.iter().enumerate() {
+        let Some(put) = waiting else {
+            continue;
+        };
+        match best {
+            Some(top) if put.block < top.put.block => {}
+            _ => best = Some(Waiting { place, put: *put }),
         }
     }
     best
-}
-
-// The block that waits at a place.
-pub(crate) fn waiting_at(table: &[Option<Put>; 8], i: usize) -> Put
-    requires { (i < 8) × (Used (at_place table.now i)) }
-    ensures { at_place table.now i ≡ Some result }
-{
-    match table[i] {
-        Some(put) => put,
-        None => unreachable(),
-    }
 }

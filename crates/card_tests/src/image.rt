@@ -30,30 +30,30 @@ pub fn put_slot(
     parent: &Handle,
     numbers: &[BlockNo],
 ) {
-    let mut block = [0; 512];
-    encode_slot(&mut block, kind, Identity(identity), parent, numbers);
-    put(image, 512 * (s as usize + 1), &block);
+    if let Some(block) = encode_slot(kind, Identity(identity), parent, numbers) {
+        put(image, 512 * (s as usize + 1), &block);
+    }
 }
 
 pub fn put_file(image: &mut [u8], b: u16, owner: Handle, leaf: u16, bytes: &[u8]) {
-    let mut block = [0; 512];
     let back = Back {
         owner,
         leaf: LeafNo(leaf),
     };
-    encode_file_body(&mut block, &back, bytes);
-    put(image, 512 * b as usize, &block);
+    if let Some(block) = encode_file_body(&back, bytes) {
+        put(image, 512 * b as usize, &block);
+    }
 }
 
 // A folder's body with one entry, at place 0.
 pub fn put_folder(image: &mut [u8], b: u16, owner: Handle, name: &[u8], child: &Handle) {
-    let mut block = [0; 512];
     let back = Back {
         owner,
         leaf: LeafNo(0),
     };
-    encode_folder_body(&mut block, &back, &[0; 480]);
-    put(image, 512 * b as usize, &block);
+    if let Some(block) = encode_folder_body(&back, &[0; 480]) {
+        put(image, 512 * b as usize, &block);
+    }
     put_entry(image, b, 0, name, child);
 }
 
@@ -66,15 +66,13 @@ pub fn put_entry(image: &mut [u8], b: u16, place: u8, name: &[u8], child: &Handl
 // alto is a file of two leaves in the root; mass is a folder in the root, and bass a file of one leaf in it.
 pub fn example() -> [u8; SIZE] {
     let mut image = [0u8; SIZE];
-    let mut cover = [0; 512];
-    if let Some(g) = Geometry::new(12, 4) {
-        encode_cover(&mut cover, &g);
-    }
     let root = handle(0, 1);
     let alto = handle(1, 2);
     let mass = handle(2, 3);
     let bass = handle(3, 4);
-    put(&mut image, 0, &cover);
+    if let Some(g) = Geometry::new(12, 4) {
+        put(&mut image, 0, &encode_cover(&g));
+    }
     put_slot(&mut image, 0, Kind::Folder, 1, &root, &[BlockNo(5)]);
     put_slot(
         &mut image,

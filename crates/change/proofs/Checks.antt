@@ -1,5 +1,5 @@
 -- The checks of a changing call, one after another.
-use Rattle.std.proofs.Common.{◌≡◌, suc, ◌<◌, ◌≤◌, true, false, List, Some, Ok, Err, Result, sym, ap, ◌∙◌, subst, inl, arith}
+use Rattle.std.proofs.Common.{◌≡◌, suc, ◌<◌, ◌≤◌, true, false, List, Some, Ok, Err, Result, sym, ap, ◌∙◌, inl, arith}
 use Rattle.std.proofs.lemmas.Bool.Decides.{nat_tests}
 use Rattle.base.specs.declared.owner.Kind.{Kind}
 use Rattle.base.specs.declared.owner.Handle.{Handle}
@@ -9,6 +9,9 @@ use Rattle.device.specs.Model.{Model}
 use Rattle.layout.specs.Format.{Geometry, Slot}
 use Rattle.layout.specs.Sizes.{sizes}
 use Rattle.layout.specs.declared.geometry.Geometry.{Geometry as CardGeometry}
+use Rattle.marks.specs.Laws.{Tells}
+use Rattle.marks.specs.declared.mark.Marks.{Marks}
+use Rattle.marks.proofs.Telling.{marks_tell}
 use Rattle.rule.specs.Agree.{View, slot_at, count, reached}
 use Rattle.rule.specs.Check.{Answer}
 use Rattle.rule.specs.Reading.{fits, kind_is}
@@ -20,7 +23,7 @@ use Rattle.walk.specs.Still.{Still, Gives, shows}
 use Rattle.walk.proofs.Stepping.{bind_ok, bind_err, check_ok, check_err}
 use Rattle.device.specs.declared.put.Put.{Put}
 use Rattle.rule.specs.Card.{Card, Plan}
-use Rattle.change.specs.Plans.{Decides, card_view, plan_view, puts_in, Planned}
+use Rattle.change.specs.Plans.{Grounded, Decides, card_view, plan_view, puts_in, Planned}
 use Rattle.change.specs.declared.plan.Memory.{Memory}
 use Rattle.change.specs.declared.plan.Plan.{Plan as CodePlan}
 
@@ -37,6 +40,10 @@ module _ (g : Geometry) (v : View) (d : Kind) (h : Handle) where
   pub near : (r : Slot) → fits g v h ≡ Ok r → reached g v h.slot.0 ≡ true → changing g v d h ≡ kind_is d h r
   unfolding changing
   near r q f = bind_ok _ _ r q ∙ bind_ok _ _ tt (check_ok (reached g v h.slot.0) _ f)
+
+-- marks that agree with the blocks tell of them
+pub tells_of : {g : CardGeometry} {m : Model} {ms : Marks} → Grounded g m ms → Tells (sizes g) (shows g m) ms
+tells_of {g} {m} {ms} t = marks_tell (sizes g) (shows g m) ms t.rooted t.marked
 
 -- a card has few slots and few blocks
 pub few_slots : (g : CardGeometry) → g.slots ≤ 256
@@ -67,7 +74,3 @@ pub plan_same : {A : Type 0} (g : CardGeometry) (a : A) (ws : List Put) (mem : M
 plan_same g a ws mem p w c e zs q =
     ap (λ (z : List Put). record { answer = a; puts = z; card = c }) (q ∙ sym w.puts)
     ∙ ap (λ (x : Card). record { answer = a; puts = puts_in p; card = x }) (e ∙ ap (card_view g) (sym w.memory))
-
--- a refusal handed on
-pub decides_exit : {A B : Type 0} (r : Result A Refusal) (x : Answer B) (P : A → Type 0) (d e : Refusal) → r ≡ Err d → d ≡ e → x ≡ Err e → Decides r x P
-decides_exit r x P d e p q h = subst (λ (z : Result _ _). Decides z x P) (sym (p ∙ ap Err q)) h

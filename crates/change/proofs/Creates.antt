@@ -114,12 +114,11 @@ module _ (g : CardGeometry) (m : Model) (mem : Memory) (d : Kind) (f : Handle) (
         ∙ ap Ok (plan_same g h (own ∷ zs) kept p y _ (ap (card_view g) (sym ek)) _ (ap (λ (t : List Put). store_slot h.slot.0 (new_slot d f h.identity.0) ∷ t) ez ∙ ap (λ (t : Put). t ∷ zs) (sym eo)))
 
     pub in_place : (q : Place) → open_place (sizes g) (shows g m) f (copied s) ≡ Some q → (own entry : Put) → own ≡ store_slot h.slot.0 (new_slot d f h.identity.0) → entry ≡ with_cell (shows g m) f (copied s) q e →
-        (kept : Memory) → kept ≡ kept_for h mem.next_body → (p : CodePlan) → Planned (own ∷ entry ∷ []) kept p → CreatePlanned g m mem d f n (record { plan = p; child = h; gained = None })
+        (kept : Memory) → kept ≡ kept_for h mem.next_body → (p : CodePlan) → Planned (own ∷ entry ∷ []) kept p → CreatePlanned g m mem d f n (record { plan = p; change = record { child = h; gained = None } })
     unfolding placed
     in_place q o own entry eo ee kept ek p y = record {
       rule = finish (with_cell (shows g m) f (copied s) q (cell n h) ∷ []) mem.next_body (ap (placed (sizes g) (shows g m) (card_view g mem) f (copied s) (cell n h)) o)
           own eo (entry ∷ []) (ap (λ (x : Cell). with_cell (shows g m) f (copied s) q x ∷ []) (sym w.cell) ∙ ap (λ (t : Put). t ∷ []) (sym ee)) kept ek p y;
-      few = y.few;
       folder = copied s;
       at = its_slot g m Folder f (copied s) w.entering.slot;
       body = sym (ap (body_taken (sizes g) (shows g m) (card_view g mem)) o);
@@ -156,7 +155,7 @@ module _ (g : CardGeometry) (m : Model) (mem : Memory) (d : Kind) (f : Handle) (
 
           pub new_leaf : (k : LeafNo) → k.0 ≡ count (copied s) → (own entry owner : Put) → own ≡ store_slot h.slot.0 (new_slot d f h.identity.0) →
               entry ≡ store b.0 (folder_body (back f k.0) (e ∷ replicate 14 blank_cell)) → owner ≡ store_slot f.slot.0 (grown (copied s) b.0) →
-              (kept : Memory) → kept ≡ kept_for h (suc b.0) → (p : CodePlan) → Planned (own ∷ entry ∷ owner ∷ []) kept p → CreatePlanned g m mem d f n (record { plan = p; child = h; gained = Some (record { block = b; leaf = k }) })
+              (kept : Memory) → kept ≡ kept_for h (suc b.0) → (p : CodePlan) → Planned (own ∷ entry ∷ owner ∷ []) kept p → CreatePlanned g m mem d f n (record { plan = p; change = record { child = h; gained = Some (record { block = b; leaf = k }) } })
           new_leaf k size own entry owner eo ee ew kept ek p y = record {
             rule = finish (store b.0 (folder_body (back f (count (copied s))) (cell n h ∷ replicate 14 blank_cell)) ∷ store_slot f.slot.0 (grown (copied s) b.0) ∷ []) (suc b.0)
                 (room _ _ on_leaf ∙ bind_ok _ _ b.0 (demand_ok (free_body (sizes g) (shows g m) mem.next_body) _ b.0 got))
@@ -165,7 +164,6 @@ module _ (g : CardGeometry) (m : Model) (mem : Memory) (d : Kind) (f : Handle) (
                 ∙ ap (λ (x : Cell). store b.0 (folder_body (back f k.0) (x ∷ replicate 14 blank_cell)) ∷ store_slot f.slot.0 (grown (copied s) b.0) ∷ []) (sym w.cell)
                 ∙ ap (λ (t : Put). t ∷ store_slot f.slot.0 (grown (copied s) b.0) ∷ []) (sym ee) ∙ ap (λ (t : Put). entry ∷ t ∷ []) (sym ew))
                 kept ek p y;
-            few = y.few;
             folder = copied s;
             at = its_slot g m Folder f (copied s) w.entering.slot;
             body = sym (ap (body_taken (sizes g) (shows g m) (card_view g mem)) o ∙ got);

@@ -1,6 +1,6 @@
 -- A remove, check by check.
 use Rattle.std.proofs.Common.{◌≡◌, ℕ, suc, ◌<◌, true, false, not, List, [], ◌∷◌, get_or, take, set, Some, None, Ok, Err, Option, sym, refl, ap, ◌∙◌, subst, arith}
-use Rattle.std.specs.Option.{option_map}
+use Rattle.std.specs.Option.{option_map, IsSome}
 use Rattle.base.specs.declared.owner.Kind.TheVariants.{Folder}
 use Rattle.base.specs.declared.owner.Handle.{Handle}
 use Rattle.base.specs.declared.refusal.Refusal.{Refusal}
@@ -34,6 +34,11 @@ use Rattle.change.specs.declared.scan.Spot.{Spot}
 use Rattle.change.specs.declared.scan.Sought.TheVariants.{Entry as AnyEntry}
 use Rattle.change.proofs.Checks.{its_slot, few_slots, plan_same}
 use Rattle.change.proofs.Sounding.{Child, found_child, entry_is}
+
+-- where the code found a place, the rule has one
+there_is : (v : View) (r : Slot) (s : Option Place) (o : Option Spot) → IsSome o → SpotOr v r s None o → some_is s (λ q. true) ≡ true
+there_is v r s None e h = cc
+there_is v r s (Some y) e h = ap (λ (o : Option Place). some_is o (λ q. true)) h.1
 
 -- the code's block with another cell is the rule's
 pub cell_changed : (v : View) (f : Handle) (r : Slot) (q : Place) (x : Spot) (e : Cell) (z : Put) → SpotAt v r q x →
@@ -98,27 +103,25 @@ module _ (g : CardGeometry) (m : Model) (mem : Memory) (f : Handle) (n : Name) w
           let same : child.slot ≡ copied t = cc in
           subst (Fits (sizes g) (shows g m) h) same child.fits
 
-      full : has_entries (sizes g) (shows g m) h ≡ some_is (first_sought (sizes g) ms h AnyEntry [] (places (shows g m) h (copied t))) (λ q. true)
+      full : has_entries (sizes g) (shows g m) h ≡ some_is (first_sought (sizes g) ms h AnyEntry (places (shows g m) h (copied t))) (λ q. true)
       full =
           ap (λ (o : Option Slot). some_is o (λ r. some_is (first (sound (sizes g) (shows g m) h) (places (shows g m) h r)) (λ q. true))) at
-          ∙ ap (λ (o : Option Place). some_is o (λ q. true)) (sym (entry_is (sizes g) (shows g m) ms h (copied t) w.tells fits child.near []))
+          ∙ ap (λ (o : Option Place). some_is o (λ q. true)) (sym (entry_is (sizes g) (shows g m) ms h (copied t) w.tells fits child.near))
 
-      module _ (y : Scan) (scanned : Scanned (sizes g) (shows g m) ms h (copied t) AnyEntry [] y) where
-        pub not_empty : (u : Spot) → y.found ≡ Some u → remove f n (card_view g mem) m.shown ≡ Err (FolderNotEmpty h.slot)
-        not_empty u is-there =
-            let q = subst (SpotOr (shows g m) (copied t) (first_sought (sizes g) ms h AnyEntry [] (places (shows g m) h (copied t))) None) is-there scanned.found in
-            let yes : has_entries (sizes g) (shows g m) h ≡ true = full ∙ ap (λ (o : Option Place). some_is o (λ q. true)) q.1 in
+      module _ (y : Scan) (scanned : Scanned (sizes g) (shows g m) ms h (copied t) AnyEntry y) where
+        pub not_empty : IsSome y.found → remove f n (card_view g mem) m.shown ≡ Err (FolderNotEmpty h.slot)
+        not_empty some =
+            let yes : has_entries (sizes g) (shows g m) h ≡ true = full ∙ there_is _ _ _ y.found some scanned.found in
             to_child w.name s w.slot w.place h w.is is ∙ bind_err _ _ _ (check_err (not (has_entries (sizes g) (shows g m) h)) _ (ap not yes))
 
         pub low_child : h.slot.0 < 65535
         low_child = omega (arith, child.fits.inside, few_slots g)
 
         pub removed : y.found ≡ None → (a b : Put) → a ≡ with_cell (shows g m) f (copied s) w.place blank_cell → b ≡ store (suc h.slot.0) blank →
-            (p : CodePlan) → Planned (a ∷ b ∷ []) mem p → RemovePlanned g m mem f n (record { plan = p; child = h; slot = t })
+            (p : CodePlan) → Planned (a ∷ b ∷ []) mem p → RemovePlanned g m mem f n (record { plan = p; change = record { handle = h; slot = t } })
         removed none a b ea eb p d = record {
           rule = to_child w.name s w.slot w.place h w.is is ∙ bind_ok _ _ tt (check_ok (not (has_entries (sizes g) (shows g m) h)) _ (ap not no))
               ∙ ap Ok (plan_same g tt (a ∷ b ∷ []) mem p d (card_view g mem) refl _ (ap (λ (z : Put). z ∷ store (suc h.slot.0) blank ∷ []) (sym ea) ∙ ap (λ (z : Put). a ∷ z ∷ []) (sym eb)));
-          few = d.few;
           folder = copied s;
           at = its_slot g m Folder f (copied s) w.slot;
           place = w.place;
@@ -128,4 +131,4 @@ module _ (g : CardGeometry) (m : Model) (mem : Memory) (f : Handle) (n : Name) w
         }
           where
             no : has_entries (sizes g) (shows g m) h ≡ false
-            no = full ∙ ap (λ (o : Option Place). some_is o (λ q. true)) (subst (SpotOr (shows g m) (copied t) (first_sought (sizes g) ms h AnyEntry [] (places (shows g m) h (copied t))) None) none scanned.found)
+            no = full ∙ ap (λ (o : Option Place). some_is o (λ q. true)) (subst (SpotOr (shows g m) (copied t) (first_sought (sizes g) ms h AnyEntry (places (shows g m) h (copied t))) None) none scanned.found)

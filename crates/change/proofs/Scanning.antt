@@ -1,10 +1,13 @@
 -- The scan of a folder, place by place and leaf by leaf.
-use Rattle.std.proofs.Common.{◌≡◌, ℕ, suc, ◌+◌, ◌-◌, ◌<◌, ◌≤◌, Bool, true, false, cond, ltb, List, [], ◌∷◌, ◌++◌, length, get_or, take, drop, Some, None, Option, sym, refl, ap, ◌∙◌, subst, inl, inr, add-one, arith, MatchOption}
-use Rattle.std.proofs.lemmas.List.{drop_more, drop_all}
+use Rattle.std.proofs.Common.{◌≡◌, ℕ, suc, ◌+◌, ◌-◌, ◌*◌, ◌<◌, ◌≤◌, Bool, true, false, cond, ltb, List, [], ◌∷◌, ◌++◌, length, get_or, take, drop, Some, None, Option, sym, refl, ap, ◌∙◌, subst, inl, inr, add-one, arith, MatchOption}
+use Rattle.std.specs.Option.{is_some, IsSome}
+use Rattle.std.proofs.Math.Seq.{take-append_seam, drop-append_seam}
+use Rattle.std.proofs.lemmas.List.{drop_more, drop_all, drop-drop, length-drop, length-append}
+use Rattle.layout.proofs.Cells.{cell_at}
 use Rattle.std.proofs.lemmas.Bool.{cond-true, cond-false, and_parts}
 use Rattle.base.specs.declared.owner.Kind.TheVariants.{File, Folder}
 use Rattle.base.specs.declared.owner.Handle.{Handle}
-use Rattle.layout.specs.Format.{Geometry, Name, Cell, Slot, back}
+use Rattle.layout.specs.Format.{Geometry, Cell, Slot, back}
 use Rattle.layout.specs.Head.{cells}
 use Rattle.marks.specs.declared.mark.Marks.{Marks}
 use Rattle.rule.specs.Agree.{View, Place, first, good, number, count, names, cells_in, places_of, places_over, places, from}
@@ -12,16 +15,31 @@ use Rattle.rule.specs.Meaning.{Body}
 use Rattle.rule.proofs.Steps.{names_true}
 use Rattle.walk.specs.Copies.{Holds, LeafIs}
 use Rattle.walk.specs.Finding.{leaf_places}
-use Rattle.walk.specs.declared.leaf.LeafCopy.{LeafCopy}
+use Rattle.walk.specs.declared.leaf_copy.LeafCopy.{LeafCopy}
 use Rattle.walk.proofs.Finding.{first_past, first_here}
 use Rattle.change.specs.declared.scan.Sought.{Sought}
 use Rattle.change.specs.declared.scan.Sought.TheVariants.{Open}
 use Rattle.change.specs.declared.scan.Spot.{Spot}
 use Rattle.change.specs.declared.scan.Scan.{Scan}
-use Rattle.change.specs.Scanning.{passes, at_cell, first_sought, SpotIn, SpotAt, SpotOr, LeafScanned, Scanned}
+use Rattle.change.specs.Scanning.{passes, at_cell, first_sought, SpotIn, SpotOr, LeafScanned, Scanned}
 
 no_kind : {A : Type 0} → File ≡ Folder → A
 no_kind e = let z : ◌≡◌ {A = ℕ} 0 1 = cc in absurd (omega arith)
+
+-- the bytes of a leaf from its cell i on
+module _ (z : List ℕ) where
+  pub cell_next : (x rest : List ℕ) (i : ℕ) → length z ≡ 480 → drop (32 * i) z ≡ x ++ rest → length x ≡ 32 → (i < 15) × (x ≡ get_or (cells z) i []) × (rest ≡ drop (32 * (i + 1)) z)
+  cell_next x rest i len e size =
+      let room = simp (length-drop, length-append) at (ap length e) in
+      let low : i < 15 = omega arith in
+      let front : take 32 (drop (32 * i) z) ≡ x = ap (take 32) e ∙ ap (λ (n : ℕ). take n (x ++ rest)) (sym size) ∙ take-append_seam x rest in
+      let back : drop 32 (drop (32 * i) z) ≡ rest = ap (drop 32) e ∙ ap (λ (n : ℕ). drop n (x ++ rest)) (sym size) ∙ drop-append_seam x rest in
+      (low, sym front ∙ sym (cell_at i z low), sym back ∙ drop-drop 32 (32 * i) z ∙ ap (λ (j : ℕ). drop j z) (omega arith))
+
+  pub cells_over : (rest : List ℕ) (i : ℕ) → length z ≡ 480 → drop (32 * i) z ≡ rest → length rest < 32 → 15 ≤ i
+  cells_over rest i len e few =
+      let room = simp length-drop at (ap length e) in
+      omega arith
 
 -- the places of a leaf from i on
 module _ (p : Place → Bool) (k : ℕ) (cs : List Cell) (i : ℕ) where
@@ -92,11 +110,11 @@ module _ (v : View) (f : Handle) (r : Slot) where
 
 -- what is sought, in a leaf that was copied
 module _ (g : Geometry) (v : View) (ms : Marks) (f : Handle) (r : Slot) (k : ℕ) (l : LeafCopy) (w : Copied v f r k l) where
-  pub spot_copied : (a : Sought) (n : Name) (o : Option Spot) → SpotIn g ms f a n k l o → SpotOr v r (first_sought g ms f a n (leaf_places v f r k)) None o
-  spot_copied a n None h = ap (first_sought g ms f a n) w.places ∙ h k
-  spot_copied a n (Some x) h = (
+  pub spot_copied : (a : Sought) (o : Option Spot) → SpotIn g ms f a k l o → SpotOr v r (first_sought g ms f a (leaf_places v f r k)) None o
+  spot_copied a None h = ap (first_sought g ms f a) w.places ∙ h k
+  spot_copied a (Some x) h = (
     record { leaf = k; place = x.place; cell = get_or (cells (take 480 l.bytes)) x.place [] },
-    ap (first_sought g ms f a n) w.places ∙ h.2.1 k,
+    ap (first_sought g ms f a) w.places ∙ h.2.1 k,
     record {
       leaf = h.0;
       place = refl;
@@ -106,61 +124,59 @@ module _ (g : Geometry) (v : View) (ms : Marks) (f : Handle) (r : Slot) (k : ℕ
     },
   )
 
-  pub leaf_scanned : (a : Sought) (n : Name) (before o u : Option Spot) → SpotIn g ms f a n k l o → MatchOption before (SpotIn g ms f Open n k l u) (λ y. u ≡ Some y) →
-      LeafScanned g v ms f r k a n before (record { found = o; vacant = u })
-  leaf_scanned a n before o u h b = record { found = spot_copied a n o h; vacant = go before b }
+  pub leaf_scanned : (a : Sought) (before o u : Option Spot) → SpotIn g ms f a k l o → MatchOption before (SpotIn g ms f Open k l u) (λ y. u ≡ Some y) →
+      LeafScanned g v ms f r k a before (record { found = o; vacant = u })
+  leaf_scanned a before o u h b = record { found = spot_copied a o h; vacant = go before b }
     where
-      go : (before : Option Spot) → MatchOption before (SpotIn g ms f Open n k l u) (λ y. u ≡ Some y) → MatchOption before (SpotOr v r (first_sought g ms f Open n (leaf_places v f r k)) None u) (λ y. u ≡ Some y)
-      go None b = spot_copied Open n u b
+      go : (before : Option Spot) → MatchOption before (SpotIn g ms f Open k l u) (λ y. u ≡ Some y) → MatchOption before (SpotOr v r (first_sought g ms f Open (leaf_places v f r k)) None u) (λ y. u ≡ Some y)
+      go None b = spot_copied Open u b
       go (Some y) b = b
 
 -- one that is not good has no places
-pub leaf_skipped : (g : Geometry) (v : View) (ms : Marks) (f : Handle) (r : Slot) (k : ℕ) (a : Sought) (n : Name) (before : Option Spot) → good v f r k ≡ false →
-    LeafScanned g v ms f r k a n before (record { found = None; vacant = before })
-leaf_skipped g v ms f r k a n before e = record { found = ap (first_sought g ms f a n) (leaf_bad v f r k e); vacant = go before }
+pub leaf_skipped : (g : Geometry) (v : View) (ms : Marks) (f : Handle) (r : Slot) (k : ℕ) (a : Sought) (before : Option Spot) → good v f r k ≡ false →
+    LeafScanned g v ms f r k a before (record { found = None; vacant = before })
+leaf_skipped g v ms f r k a before e = record { found = ap (first_sought g ms f a) (leaf_bad v f r k e); vacant = go before }
   where
-    go : (before : Option Spot) → MatchOption before (SpotOr v r (first_sought g ms f Open n (leaf_places v f r k)) None before) (λ y. before ≡ Some y)
-    go None = ap (first_sought g ms f Open n) (leaf_bad v f r k e)
+    go : (before : Option Spot) → MatchOption before (SpotOr v r (first_sought g ms f Open (leaf_places v f r k)) None before) (λ y. before ≡ Some y)
+    go None = ap (first_sought g ms f Open) (leaf_bad v f r k e)
     go (Some y) = refl
 
 -- a turn of the scan, at leaf k of c
-module _ (g : Geometry) (v : View) (ms : Marks) (f : Handle) (r : Slot) (a : Sought) (n : Name) (k c : ℕ) (l : k < c) (before : Option Spot) (x : Scan) (w : LeafScanned g v ms f r k a n before x)
-    (inv : first_sought g ms f a n (places v f r) ≡ first_sought g ms f a n (places_over v f r (from k (c - k)))) where
-  pub scan_found : (y : Spot) → x.found ≡ Some y → Scanned g v ms f r a n x
-  scan_found y e = record {
-    found = subst (SpotOr v r (first_sought g ms f a n (places v f r)) None) (sym e) (q.0, inv ∙ leaf_here v f r (at_cell (passes g ms f a n)) k c q.0 l q.1, q.2);
-    vacant = λ u. let z : ◌≡◌ {A = ℕ} 0 1 = cc in absurd (omega arith);
-  }
+module _ (g : Geometry) (v : View) (ms : Marks) (f : Handle) (r : Slot) (a : Sought) (k c : ℕ) (l : k < c) (before : Option Spot) (x : Scan) (w : LeafScanned g v ms f r k a before x)
+    (inv : first_sought g ms f a (places v f r) ≡ first_sought g ms f a (places_over v f r (from k (c - k)))) where
+  pub scan_found : IsSome x.found → Scanned g v ms f r a x
+  scan_found some = record { found = go x.found some w.found; vacant = λ none. let t : false ≡ true = ap is_some (sym none) ∙ some in cc }
     where
-      q : (q : Place) × (first_sought g ms f a n (leaf_places v f r k) ≡ Some q) × SpotAt v r q y
-      q = subst (SpotOr v r (first_sought g ms f a n (leaf_places v f r k)) None) e w.found
+      go : (o : Option Spot) → IsSome o → SpotOr v r (first_sought g ms f a (leaf_places v f r k)) None o → SpotOr v r (first_sought g ms f a (places v f r)) None o
+      go None e h = cc
+      go (Some y) e h = (h.0, inv ∙ leaf_here v f r (at_cell (passes g ms f a)) k c h.0 l h.1, h.2)
 
-  pub scan_on : x.found ≡ None → first_sought g ms f a n (places v f r) ≡ first_sought g ms f a n (places_over v f r (from (k + 1) (c - (k + 1))))
-  scan_on e = inv ∙ leaf_on v f r (at_cell (passes g ms f a n)) k c l (subst (SpotOr v r (first_sought g ms f a n (leaf_places v f r k)) None) e w.found)
+  pub scan_on : x.found ≡ None → first_sought g ms f a (places v f r) ≡ first_sought g ms f a (places_over v f r (from (k + 1) (c - (k + 1))))
+  scan_on e = inv ∙ leaf_on v f r (at_cell (passes g ms f a)) k c l (subst (SpotOr v r (first_sought g ms f a (leaf_places v f r k)) None) e w.found)
 
-pub vacant_on : (g : Geometry) (v : View) (ms : Marks) (f : Handle) (r : Slot) (a : Sought) (n : Name) (k c : ℕ) → k < c → (before : Option Spot) (x : Scan) → LeafScanned g v ms f r k a n before x →
-    (s : Option Place) → SpotOr v r s (first_sought g ms f Open n (places_over v f r (from k (c - k)))) before → SpotOr v r s (first_sought g ms f Open n (places_over v f r (from (k + 1) (c - (k + 1))))) x.vacant
-vacant_on g v ms f r a n k c l before x w s inv = go before w.vacant inv
+pub vacant_on : (g : Geometry) (v : View) (ms : Marks) (f : Handle) (r : Slot) (a : Sought) (k c : ℕ) → k < c → (before : Option Spot) (x : Scan) → LeafScanned g v ms f r k a before x →
+    (s : Option Place) → SpotOr v r s (first_sought g ms f Open (places_over v f r (from k (c - k)))) before → SpotOr v r s (first_sought g ms f Open (places_over v f r (from (k + 1) (c - (k + 1))))) x.vacant
+vacant_on g v ms f r a k c l before x w s inv = go before w.vacant inv
   where
-    step : (u : Option Spot) → s ≡ first_sought g ms f Open n (places_over v f r (from k (c - k))) → SpotOr v r (first_sought g ms f Open n (leaf_places v f r k)) None u → SpotOr v r s (first_sought g ms f Open n (places_over v f r (from (k + 1) (c - (k + 1))))) u
-    step None i h = i ∙ leaf_on v f r (at_cell (passes g ms f Open n)) k c l h
-    step (Some y) i h = (h.0, i ∙ leaf_here v f r (at_cell (passes g ms f Open n)) k c h.0 l h.1, h.2)
+    step : (u : Option Spot) → s ≡ first_sought g ms f Open (places_over v f r (from k (c - k))) → SpotOr v r (first_sought g ms f Open (leaf_places v f r k)) None u → SpotOr v r s (first_sought g ms f Open (places_over v f r (from (k + 1) (c - (k + 1))))) u
+    step None i h = i ∙ leaf_on v f r (at_cell (passes g ms f Open)) k c l h
+    step (Some y) i h = (h.0, i ∙ leaf_here v f r (at_cell (passes g ms f Open)) k c h.0 l h.1, h.2)
 
-    go : (before : Option Spot) → MatchOption before (SpotOr v r (first_sought g ms f Open n (leaf_places v f r k)) None x.vacant) (λ y. x.vacant ≡ Some y) →
-        SpotOr v r s (first_sought g ms f Open n (places_over v f r (from k (c - k)))) before → SpotOr v r s (first_sought g ms f Open n (places_over v f r (from (k + 1) (c - (k + 1))))) x.vacant
+    go : (before : Option Spot) → MatchOption before (SpotOr v r (first_sought g ms f Open (leaf_places v f r k)) None x.vacant) (λ y. x.vacant ≡ Some y) →
+        SpotOr v r s (first_sought g ms f Open (places_over v f r (from k (c - k)))) before → SpotOr v r s (first_sought g ms f Open (places_over v f r (from (k + 1) (c - (k + 1))))) x.vacant
     go None h i = step x.vacant i h
-    go (Some y) h i = subst (SpotOr v r s (first_sought g ms f Open n (places_over v f r (from (k + 1) (c - (k + 1)))))) (sym h) i
+    go (Some y) h i = subst (SpotOr v r s (first_sought g ms f Open (places_over v f r (from (k + 1) (c - (k + 1)))))) (sym h) i
 
-pub scan_end : (g : Geometry) (v : View) (ms : Marks) (f : Handle) (r : Slot) (a : Sought) (n : Name) (k c : ℕ) → c ≤ k → (o : Option Spot) →
-    first_sought g ms f a n (places v f r) ≡ first_sought g ms f a n (places_over v f r (from k (c - k))) →
-    SpotOr v r (first_sought g ms f Open n (places v f r)) (first_sought g ms f Open n (places_over v f r (from k (c - k)))) o → Scanned g v ms f r a n (record { found = None; vacant = o })
-scan_end g v ms f r a n k c l o i h = record {
-  found = i ∙ leaf_end v f r (at_cell (passes g ms f a n)) k c l;
-  vacant = λ u. subst (λ (s : Option Place). SpotOr v r (first_sought g ms f Open n (places v f r)) s o) (leaf_end v f r (at_cell (passes g ms f Open n)) k c l) h;
+pub scan_end : (g : Geometry) (v : View) (ms : Marks) (f : Handle) (r : Slot) (a : Sought) (k c : ℕ) → c ≤ k → (o : Option Spot) →
+    first_sought g ms f a (places v f r) ≡ first_sought g ms f a (places_over v f r (from k (c - k))) →
+    SpotOr v r (first_sought g ms f Open (places v f r)) (first_sought g ms f Open (places_over v f r (from k (c - k)))) o → Scanned g v ms f r a (record { found = None; vacant = o })
+scan_end g v ms f r a k c l o i h = record {
+  found = i ∙ leaf_end v f r (at_cell (passes g ms f a)) k c l;
+  vacant = λ u. subst (λ (s : Option Place). SpotOr v r (first_sought g ms f Open (places v f r)) s o) (leaf_end v f r (at_cell (passes g ms f Open)) k c l) h;
 }
 
-pub scan_file : (g : Geometry) (v : View) (ms : Marks) (f : Handle) (r : Slot) (a : Sought) (n : Name) → r.kind ≡ File → Scanned g v ms f r a n (record { found = None; vacant = None })
-scan_file g v ms f r a n d = record {
-  found = ap (first_sought g ms f a n) (file_places v f r d (from 0 (count r)));
-  vacant = λ u. ap (first_sought g ms f Open n) (file_places v f r d (from 0 (count r)));
+pub scan_file : (g : Geometry) (v : View) (ms : Marks) (f : Handle) (r : Slot) (a : Sought) → r.kind ≡ File → Scanned g v ms f r a (record { found = None; vacant = None })
+scan_file g v ms f r a d = record {
+  found = ap (first_sought g ms f a) (file_places v f r d (from 0 (count r)));
+  vacant = λ u. ap (first_sought g ms f Open) (file_places v f r d (from 0 (count r)));
 }

@@ -37,15 +37,15 @@ module _ (g : CardGeometry) (m : Model) (mem : Memory) (h : Handle) (n : ℕ) wh
     past_count l = rest ∙ bind_err _ _ _ (check_err (leb n (count (copied s))) _ (lt-leb n (count (copied s)) l))
 
     accepted : n ≤ count (copied s) → (ws : List Put) → cond (eqb n (count (copied s))) [] (store_slot h.slot.0 (cut_to (copied s) n) ∷ []) ≡ ws →
-        (p : CodePlan) → Planned ws mem p → ShortenPlanned g m mem h n (record { plan = p; slot = s })
+        (p : CodePlan) → Planned ws mem p → ShortenPlanned g m mem h n (record { plan = p; change = record { handle = h; slot = s } })
     accepted l ws e p w = record {
       rule = rest ∙ bind_ok _ _ tt (check_ok (leb n (count (copied s))) _ (le-leb n (count (copied s)) l)) ∙ ap Ok (plan_same g tt ws mem p w (card_view g mem) refl _ e);
-      few = w.few;
+      file = refl;
       at = its_slot g m File h (copied s) q;
     }
 
-    pub at_count : n ≡ count (copied s) → (p : CodePlan) → Planned [] mem p → ShortenPlanned g m mem h n (record { plan = p; slot = s })
+    pub at_count : n ≡ count (copied s) → (p : CodePlan) → Planned [] mem p → ShortenPlanned g m mem h n (record { plan = p; change = record { handle = h; slot = s } })
     at_count e = accepted (omega arith) [] (ap (λ (b : Bool). cond b [] (store_slot h.slot.0 (cut_to (copied s) n) ∷ [])) (eq-eqb n (count (copied s)) e))
 
-    pub below : n < count (copied s) → (w : Put) → w ≡ store_slot h.slot.0 (cut_to (copied s) n) → (p : CodePlan) → Planned (w ∷ []) mem p → ShortenPlanned g m mem h n (record { plan = p; slot = s })
+    pub below : n < count (copied s) → (w : Put) → w ≡ store_slot h.slot.0 (cut_to (copied s) n) → (p : CodePlan) → Planned (w ∷ []) mem p → ShortenPlanned g m mem h n (record { plan = p; change = record { handle = h; slot = s } })
     below l w e = accepted (omega arith) (w ∷ []) (ap (λ (b : Bool). cond b [] (store_slot h.slot.0 (cut_to (copied s) n) ∷ [])) (ne_eqb n (count (copied s)) (λ x. omega arith)) ∙ ap (λ (z : Put). z ∷ []) (sym e))

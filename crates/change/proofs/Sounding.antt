@@ -1,5 +1,6 @@
 -- What a scan by the marks finds is what the rule finds.
 use Rattle.std.proofs.Common.{◌≡◌, Bool, true, cond, not, ◌&&◌, List, [], ◌∷◌, Some, None, Ok, Option, sym, refl, ap, ◌∙◌, subst, inl, inr}
+use Rattle.std.specs.Borrow.{Bor}
 use Rattle.base.specs.declared.owner.Handle.{Handle}
 use Rattle.device.specs.Model.{In}
 use Rattle.layout.specs.Format.{Geometry, Name, Slot, Entry, entry, no_entry, entry_of}
@@ -32,7 +33,7 @@ first_same p s [] h = refl
 first_same p s (x ∷ xs) h =
     ap (λ (b : Bool). cond b (Some x) (first p xs)) (h x (inl refl)) ∙ ap (λ (o : Option _). cond (s x) (Some x) o) (first_same p s xs (λ y w. h y (inr w)))
 
-module _ (g : Geometry) (v : View) (ms : Marks) (f : Handle) (r : Slot) (t : Tells g v ms) (fit : Fits g v f r) (near : reached g v f.slot.0 ≡ true) (n : Name) where
+module _ (g : Geometry) (v : View) (ms : Marks) (f : Handle) (r : Slot) (t : Tells g v ms) (fit : Fits g v f r) (near : reached g v f.slot.0 ≡ true) where
   marked_sound : (q : Place) → In q (places v f r) → marked ms f (entry_of g q.cell) ≡ sound g v f q
   marked_sound q w = go (entry_of g q.cell) refl
     where
@@ -40,13 +41,13 @@ module _ (g : Geometry) (v : View) (ms : Marks) (f : Handle) (r : Slot) (t : Tel
       go (entry m c) is = sym (t.entry_is f r q m c fit near w is)
       go no_entry is = refl
 
-  pub named_is : first_sought g ms f Named n (places v f r) ≡ found g v f r n
-  named_is = first_same _ _ (places v f r) (λ q w. ap (λ (b : Bool). has_name n (entry_of g q.cell) && b) (marked_sound q w))
+  pub named_is : (n : Bor Name) → first_sought g ms f (Named n) (places v f r) ≡ found g v f r n.now
+  named_is n = first_same _ _ (places v f r) (λ q w. ap (λ (b : Bool). has_name n.now (entry_of g q.cell) && b) (marked_sound q w))
 
-  pub entry_is : first_sought g ms f AnyEntry n (places v f r) ≡ first (sound g v f) (places v f r)
+  pub entry_is : first_sought g ms f AnyEntry (places v f r) ≡ first (sound g v f) (places v f r)
   entry_is = first_same _ _ (places v f r) marked_sound
 
-  pub open_is : first_sought g ms f Open n (places v f r) ≡ open_place g v f r
+  pub open_is : first_sought g ms f Open (places v f r) ≡ open_place g v f r
   open_is = first_same _ _ (places v f r) (λ q w. ap not (marked_sound q w))
 
 -- the child of the entry that is found is reached, and fits
@@ -62,24 +63,24 @@ found_child g v f r n q rooted fit near e =
     subst (Child g v) (sym (ap child_of w.1)) (record { slot = s.child; fits = s.child_fits; near = reached_from g v w.0 (under (reached_fits g v f r rooted fit near) s) })
 
 -- a scan for the name, made after m
-module _ (g : CardGeometry) (m k : Model) (ms : Marks) (f : Handle) (s : SlotCopy) (n : Name) (x : Scan) (t : Tells (sizes g) (shows g m) ms) (still : Still m k)
-    (slot : changing (sizes g) (shows g m) Folder f ≡ Ok (copied s)) (scanned : Scanned (sizes g) (shows g k) ms f (copied s) Named n x) where
-  pub scan_moved : Scanned (sizes g) (shows g m) ms f (copied s) Named n x
-  scan_moved = subst (λ (y : Shown). Scanned (sizes g) (seen (sizes g) y) ms f (copied s) Named n x) still.kept.shown scanned
+module _ (g : CardGeometry) (m k : Model) (ms : Marks) (f : Handle) (s : SlotCopy) (n : Bor Name) (x : Scan) (t : Tells (sizes g) (shows g m) ms) (still : Still m k)
+    (slot : changing (sizes g) (shows g m) Folder f ≡ Ok (copied s)) (scanned : Scanned (sizes g) (shows g k) ms f (copied s) (Named n) x) where
+  pub scan_moved : Scanned (sizes g) (shows g m) ms f (copied s) (Named n) x
+  scan_moved = subst (λ (y : Shown). Scanned (sizes g) (seen (sizes g) y) ms f (copied s) (Named n) x) still.kept.shown scanned
 
-  name_is : first_sought (sizes g) ms f Named n (places (shows g m) f (copied s)) ≡ found (sizes g) (shows g m) f (copied s) n
+  name_is : first_sought (sizes g) ms f (Named n) (places (shows g m) f (copied s)) ≡ found (sizes g) (shows g m) f (copied s) n.now
   name_is = let c = changing_ok (sizes g) (shows g m) Folder f (copied s) slot in named_is (sizes g) (shows g m) ms f (copied s) t c.fits c.reached n
 
-  pub named_none : x.found ≡ None → found (sizes g) (shows g m) f (copied s) n ≡ None
-  named_none e = sym name_is ∙ subst (SpotOr (shows g m) (copied s) (first_sought (sizes g) ms f Named n (places (shows g m) f (copied s))) None) e scan_moved.found
+  pub named_none : x.found ≡ None → found (sizes g) (shows g m) f (copied s) n.now ≡ None
+  named_none e = sym name_is ∙ subst (SpotOr (shows g m) (copied s) (first_sought (sizes g) ms f (Named n) (places (shows g m) f (copied s))) None) e scan_moved.found
 
-  pub named_some : (y : Spot) → x.found ≡ Some y → (q : Place) × (found (sizes g) (shows g m) f (copied s) n ≡ Some q) × SpotAt (shows g m) (copied s) q y
+  pub named_some : (y : Spot) → x.found ≡ Some y → (q : Place) × (found (sizes g) (shows g m) f (copied s) n.now ≡ Some q) × SpotAt (shows g m) (copied s) q y
   named_some y e =
-      let w = subst (SpotOr (shows g m) (copied s) (first_sought (sizes g) ms f Named n (places (shows g m) f (copied s))) None) e scan_moved.found in
+      let w = subst (SpotOr (shows g m) (copied s) (first_sought (sizes g) ms f (Named n) (places (shows g m) f (copied s))) None) e scan_moved.found in
       (w.0, sym name_is ∙ w.1, w.2)
 
   -- and the open place that it met
   pub vacant_is : x.found ≡ None → SpotOr (shows g m) (copied s) (open_place (sizes g) (shows g m) f (copied s)) None x.vacant
   vacant_is e =
       let c = changing_ok (sizes g) (shows g m) Folder f (copied s) slot in
-      subst (λ (o : Option Place). SpotOr (shows g m) (copied s) o None x.vacant) (open_is (sizes g) (shows g m) ms f (copied s) t c.fits c.reached n) (scan_moved.vacant e)
+      subst (λ (o : Option Place). SpotOr (shows g m) (copied s) o None x.vacant) (open_is (sizes g) (shows g m) ms f (copied s) t c.fits c.reached) (scan_moved.vacant e)

@@ -3,6 +3,7 @@ use Rattle.std.proofs.Common.{◌≡◌, ℕ, suc, ◌<◌, ◌≤◌, Bool, tru
 use Rattle.std.specs.Option.{option_map}
 use Rattle.std.proofs.lemmas.Bool.{le-leb, lt-leb, lt-ltb, le-ltb, and_from, and_left, and_right, cond-true, cond-false}
 use Rattle.base.specs.declared.number.BlockNo.{BlockNo}
+use Rattle.base.specs.declared.number.LeafNo.{LeafNo}
 use Rattle.base.specs.declared.owner.Kind.TheVariants.{File}
 use Rattle.base.specs.declared.owner.Handle.{Handle}
 use Rattle.base.specs.declared.refusal.Refusal.{Refusal}
@@ -20,6 +21,7 @@ use Rattle.rule.specs.Check.{◌>>=◌, check}
 use Rattle.rule.specs.Changing.{changing, write, below_count, replaces, appends, grown, store, store_slot}
 use Rattle.rule.proofs.Free.{body_given}
 use Rattle.rule.proofs.Plans.{changing_ok}
+use Rattle.rule.proofs.Steps.{clash_none}
 use Rattle.walk.specs.Copies.{copied}
 use Rattle.walk.specs.Still.{shows}
 use Rattle.walk.specs.declared.slot.SlotCopy.{SlotCopy}
@@ -73,14 +75,14 @@ module _ (g : CardGeometry) (m : Model) (mem : Memory) (h : Handle) (k : ℕ) (x
           let bad : good (shows g m) h (copied s) k ≡ false = is_good ∙ subst (λ (i : ℕ). is_leaf ms i (back h k) ≡ false) e f in
           replaced ∙ bind_err _ _ _ (check_err (good (shows g m) h (copied s) k) _ bad) ∙ ap (λ (i : ℕ). Err (LeafNotGood (block i))) (sym e)
 
-      pub in_place : (b : BlockNo) → b.0 ≡ number (copied s) k → is_leaf ms b.0 (back h k) ≡ true → (z : Put) → z ≡ store b.0 (file_body (back h k) x) → (p : CodePlan) → Planned (z ∷ []) mem p → WritePlanned g m mem h k x (record { plan = p; body = None })
+      pub in_place : (b : BlockNo) → b.0 ≡ number (copied s) k → is_leaf ms b.0 (back h k) ≡ true → (z : Put) → z ≡ store b.0 (file_body (back h k) x) → (p : CodePlan) → Planned (z ∷ []) mem p → WritePlanned g m mem h k x (record { plan = p; change = None })
       unfolding replaces
       in_place b e f z q p y = record {
         rule = replaced ∙ fine;
-        few = y.few;
         slot = copied s;
         at = its_slot g m File h (copied s) w.slot;
         body = sym (cond-true (ltb k (count (copied s))) None (free_body (sizes g) (shows g m) mem.next_body) (lt-ltb k (count (copied s)) l));
+        leaf = λ u none. clash_none none;
       }
         where
           well : good (shows g m) h (copied s) k ≡ true
@@ -112,16 +114,16 @@ module _ (g : CardGeometry) (m : Model) (mem : Memory) (h : Handle) (x : List �
       pub low_body : b.0 < 65535
       low_body = omega (arith, (body_given (sizes g) (shows g m) mem.next_body b.0 taken).inside, few_blocks g)
 
-      pub at_end : (z y : Put) → z ≡ store b.0 (file_body (back h (count (copied s))) x) → y ≡ store_slot h.slot.0 (grown (copied s) b.0) →
+      pub at_end : (c : LeafNo) → c.0 ≡ count (copied s) → (z y : Put) → z ≡ store b.0 (file_body (back h (count (copied s))) x) → y ≡ store_slot h.slot.0 (grown (copied s) b.0) →
           (kept : Memory) → kept ≡ kept_at mem (suc b.0) →
-          (p : CodePlan) → Planned (z ∷ y ∷ []) kept p → WritePlanned g m mem h (count (copied s)) x (record { plan = p; body = Some b })
+          (p : CodePlan) → Planned (z ∷ y ∷ []) kept p → WritePlanned g m mem h (count (copied s)) x (record { plan = p; change = Some (record { block = b; leaf = c }) })
       unfolding appends
-      at_end z y ez ey kept ek p d = record {
+      at_end c size z y ez ey kept ek p d = record {
         rule = appended ∙ fine;
-        few = d.few;
         slot = copied s;
         at = its_slot g m File h (copied s) w.slot;
         body = sym (cond-false (ltb (count (copied s)) (count (copied s))) None (free_body (sizes g) (shows g m) mem.next_body) (le-ltb (count (copied s)) (count (copied s)) (omega arith)) ∙ taken);
+        leaf = λ u is_u. let v : c ≡ u.leaf = cc in ap (λ (x : LeafNo). x.0) (sym v) ∙ size;
       }
         where
           fine : appends (sizes g) (shows g m) (card_view g mem) h (copied s) x ≡ Ok (plan_view tt g p)

@@ -1,7 +1,6 @@
 -- What the plans in the code stand for, and what is known of the plan of an accepted call.
-use Rattle.std.specs.Prelude.{◌≡◌, ℕ, suc, ◌≤◌, List, length, take, Some, None, Ok, Err, Result, MatchResult, nat_lt}
+use Rattle.std.specs.Prelude.{◌≡◌, ℕ, suc, ◌≤◌, List, length, Some, None, Ok, Err, Option, Result, MatchResult, nat_lt}
 use Rattle.std.specs.Option.{option_map}
-use Rattle.base.specs.declared.number.BlockNo.{BlockNo}
 use Rattle.base.specs.declared.owner.Handle.{Handle}
 use Rattle.base.specs.declared.owner.Kind.TheVariants.{File, Folder}
 use Rattle.base.specs.declared.owner.Kind.{Kind}
@@ -25,15 +24,14 @@ use Rattle.rule.specs.Reading.{named, child_of}
 use Rattle.walk.specs.Copies.{copied}
 use Rattle.walk.specs.Still.{shows}
 use Rattle.walk.specs.declared.slot.SlotCopy.{SlotCopy}
+use Rattle.walk.specs.declared.node.Node.{Node}
 use Rattle.change.specs.Scanning.{SpotAt}
 use Rattle.change.specs.declared.scan.Spot.{Spot}
 use Rattle.change.specs.declared.plan.Memory.{Memory}
 use Rattle.change.specs.declared.plan.Plan.{Plan as CodePlan}
-use Rattle.change.specs.declared.plan.WritePlan.{WritePlan}
-use Rattle.change.specs.declared.plan.ShortenPlan.{ShortenPlan}
-use Rattle.change.specs.declared.plan.RemovePlan.{RemovePlan}
+use Rattle.change.specs.declared.plan.Accepted.{Accepted}
 use Rattle.change.specs.declared.plan.Gained.{Gained}
-use Rattle.change.specs.declared.plan.CreatePlan.{CreatePlan}
+use Rattle.change.specs.declared.plan.Created.{Created}
 
 -- a card of this geometry that is ready
 abbrev pub card_view : CardGeometry → Memory → Card
@@ -41,7 +39,7 @@ card_view g mem = record { ready = Ok (sizes g); highest = mem.highest.0; next_s
 
 -- the blocks that are to be written
 abbrev pub puts_in : CodePlan → List Put
-puts_in p = take p.len p.puts
+puts_in p = p.puts.items
 
 abbrev pub plan_view : {A : Type 0} → A → CardGeometry → CodePlan → Plan A
 plan_view a g p = record { answer = a; puts = puts_in p; card = card_view g p.memory }
@@ -49,7 +47,6 @@ plan_view a g p = record { answer = a; puts = puts_in p; card = card_view g p.me
 -- a plan of these blocks and this memory
 pub record Planned (ws : List Put) (mem : Memory) (p : CodePlan) : Type 0 where
   pub puts : puts_in p ≡ ws
-  pub few : p.len ≤ 3
   pub memory : p.memory ≡ mem
 
 -- the root is good, and the marks agree with the blocks
@@ -95,34 +92,36 @@ pub record Creating (g : CardGeometry) (m : Model) (ms : Marks) (mem : Memory) (
   pub child : fresh g ms mem ≡ Ok h
   pub cell : e ≡ cell n h
 
+-- the block of a new leaf
+abbrev pub gained_block : Gained → ℕ
+gained_block y = y.block.0
+
 -- ---- accepted: the rule's plan, and what else the card needs to know to mark it
 
-pub record WritePlanned (g : CardGeometry) (m : Model) (mem : Memory) (h : Handle) (k : ℕ) (x : List ℕ) (w : WritePlan) : Type 0 where
+pub record WritePlanned (g : CardGeometry) (m : Model) (mem : Memory) (h : Handle) (k : ℕ) (x : List ℕ) (w : Accepted (Option Gained)) : Type 0 where
   pub rule : write h k x (card_view g mem) m.shown ≡ Ok (plan_view tt g w.plan)
-  pub few : w.plan.len ≤ 3
   pub slot : Slot
   pub at : slot_at (sizes g) (shows g m) h.slot.0 ≡ Some slot
-  pub body : option_map (λ (b : BlockNo). b.0) w.body ≡ body_added (sizes g) (shows g m) (card_view g mem) k (count slot)
+  pub body : option_map gained_block w.change ≡ body_added (sizes g) (shows g m) (card_view g mem) k (count slot)
+  pub leaf : (y : Gained) → w.change ≡ Some y → y.leaf.0 ≡ k
 
-pub record ShortenPlanned (g : CardGeometry) (m : Model) (mem : Memory) (h : Handle) (n : ℕ) (w : ShortenPlan) : Type 0 where
+pub record ShortenPlanned (g : CardGeometry) (m : Model) (mem : Memory) (h : Handle) (n : ℕ) (w : Accepted Node) : Type 0 where
   pub rule : shorten h n (card_view g mem) m.shown ≡ Ok (plan_view tt g w.plan)
-  pub few : w.plan.len ≤ 3
-  pub at : slot_at (sizes g) (shows g m) h.slot.0 ≡ Some (copied w.slot)
+  pub file : w.change.handle ≡ h
+  pub at : slot_at (sizes g) (shows g m) h.slot.0 ≡ Some (copied w.change.slot)
 
-pub record RemovePlanned (g : CardGeometry) (m : Model) (mem : Memory) (f : Handle) (n : Name) (w : RemovePlan) : Type 0 where
+pub record RemovePlanned (g : CardGeometry) (m : Model) (mem : Memory) (f : Handle) (n : Name) (w : Accepted Node) : Type 0 where
   pub rule : remove f n (card_view g mem) m.shown ≡ Ok (plan_view tt g w.plan)
-  pub few : w.plan.len ≤ 3
   pub folder : Slot
   pub at : slot_at (sizes g) (shows g m) f.slot.0 ≡ Some folder
   pub place : Place
   pub is : found (sizes g) (shows g m) f folder n ≡ Some place
-  pub child : child_of (entry_of (sizes g) place.cell) ≡ w.child
-  pub slot : slot_at (sizes g) (shows g m) w.child.slot.0 ≡ Some (copied w.slot)
+  pub child : child_of (entry_of (sizes g) place.cell) ≡ w.change.handle
+  pub slot : slot_at (sizes g) (shows g m) w.change.handle.slot.0 ≡ Some (copied w.change.slot)
 
-pub record CreatePlanned (g : CardGeometry) (m : Model) (mem : Memory) (d : Kind) (f : Handle) (n : Name) (w : CreatePlan) : Type 0 where
-  pub rule : create d f n (card_view g mem) m.shown ≡ Ok (plan_view w.child g w.plan)
-  pub few : w.plan.len ≤ 3
+pub record CreatePlanned (g : CardGeometry) (m : Model) (mem : Memory) (d : Kind) (f : Handle) (n : Name) (w : Accepted Created) : Type 0 where
+  pub rule : create d f n (card_view g mem) m.shown ≡ Ok (plan_view w.change.child g w.plan)
   pub folder : Slot
   pub at : slot_at (sizes g) (shows g m) f.slot.0 ≡ Some folder
-  pub body : option_map (λ (y : Gained). y.block.0) w.gained ≡ body_taken (sizes g) (shows g m) (card_view g mem) (open_place (sizes g) (shows g m) f folder)
-  pub leaf : (y : Gained) → w.gained ≡ Some y → y.leaf.0 ≡ count folder
+  pub body : option_map gained_block w.change.gained ≡ body_taken (sizes g) (shows g m) (card_view g mem) (open_place (sizes g) (shows g m) f folder)
+  pub leaf : (y : Gained) → w.change.gained ≡ Some y → y.leaf.0 ≡ count folder

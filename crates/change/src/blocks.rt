@@ -1,6 +1,6 @@
 // The blocks that are written.
 ghost use Rattle.std.specs.Prelude.{◌≡◌, ℕ, suc, ◌<◌, ◌≤◌, true, ◌∷◌, length, take, replicate, slice_index_or, slice_set};
-ghost use Rattle.encode.specs.Heads.{plain};
+ghost use Rattle.encode.specs.Heads.{plain, Begins};
 ghost use Rattle.layout.specs.Format.{blank, blank_cell, good_name, cell as entry_cell, back, file_body, folder_body};
 ghost use Rattle.layout.specs.Head.{cells};
 ghost use Rattle.rule.specs.Agree.{number, count};
@@ -14,6 +14,7 @@ use base::owner::{Back, Handle, Kind};
 use device::put::Put;
 use encode::block::{encode_blank, encode_file_body, encode_folder_change, encode_slot};
 use encode::entry::encode_entry;
+use walk::node::Node;
 use walk::slot::SlotCopy;
 
 // The number after. A card has no slot and no block 65535, so the sum is never cut short.
@@ -23,26 +24,33 @@ pub(crate) fn after(n: u16) -> u16
     n.saturating_add(1)
 }
 
+// The block of a slot.
+// Kept: a public slot number takes all 16 bits and no type may take fewer, so clauses here begin with at.0 < 65535.
+fn block_of(at: SlotNo) -> BlockNo
+    ensures { at.0 < 65535 → result ≡ block_no (suc at.0) }
+{
+    BlockNo(after(at.0))
+}
+
 // The blocks of the leaves; 0 from the count on.
 fn numbers_of(slot: &SlotCopy) -> [BlockNo; 64]
-    ensures { (k : ℕ) → k < 64 → (slice_index_or result k (block_no 0)).0 ≡ number (copied slot.now) k }
+    ensures { Begins (copied slot.now).numbers result 64 }
 {
     let mut all = [BlockNo(0); 64];
-    for k in 0..64u16 {
-        all[k as usize] = slot.number(LeafNo(k));
+    for (k, number) in all.iter_mut().enumerate() {
+        *number = slot.number(LeafNo(k as u16));
     }
     all
 }
 
-// The slot with these numbers, at most 64.
+// The slot with these numbers.
 fn slot_put(at: SlotNo, slot: &SlotCopy, numbers: &[BlockNo]) -> Put
-    ensures { at.0 < 65535 → length numbers.now ≤ 64 → result ≡ store_slot at.0 (with_numbers (copied slot.now) (plain numbers.now)) }
+    requires { length numbers.now ≤ 64 }
+    ensures { at.0 < 65535 → result ≡ store_slot at.0 (with_numbers (copied slot.now) (plain numbers.now)) }
 {
-    let mut bytes = [0; 512];
-    encode_slot(&mut bytes, slot.kind, slot.identity, &slot.parent, numbers);
     Put {
-        block: BlockNo(after(at.0)),
-        bytes,
+        block: block_of(at),
+        bytes: encode_slot(slot.kind, slot.identity, &slot.parent, numbers).unwrap(),
     }
 }
 
@@ -65,15 +73,13 @@ pub(crate) fn grown_put(at: SlotNo, slot: &SlotCopy, leaf: BlockNo) -> Put
     slot_put(at, slot, &all[0..last + 1])
 }
 
-// A leaf of a file, of at most 496 bytes.
+// A leaf of a file, of at most 496 bytes; zeros for more.
 pub(crate) fn file_put(at: BlockNo, back: &Back, bytes: &[u8]) -> Put
     ensures { length bytes.now ≤ 496 → result ≡ store at.0 (file_body back.now bytes.now) }
 {
-    let mut out = [0; 512];
-    encode_file_body(&mut out, back, bytes);
     Put {
         block: at,
-        bytes: out,
+        bytes: encode_file_body(back, bytes).unwrap_or([0; 512]),
     }
 }
 
@@ -81,33 +87,24 @@ pub(crate) fn file_put(at: BlockNo, back: &Back, bytes: &[u8]) -> Put
 pub(crate) fn blank_put(at: SlotNo) -> Put
     ensures { at.0 < 65535 → result ≡ store (suc at.0) blank }
 {
-    let mut bytes = [0; 512];
-    encode_blank(&mut bytes);
     Put {
-        block: BlockNo(after(at.0)),
-        bytes,
+        block: block_of(at),
+        bytes: encode_blank(),
     }
 }
 
-// A leaf of a folder, whose slot is given, with another cell at one place.
-pub(crate) fn cell_put(folder: &Handle, slot: &SlotCopy, spot: &Spot, cell: &[u8; 32]) -> Put
-    ensures { spot.now.place < 15 → result ≡ store (number (copied slot.now) spot.now.leaf.0) (folder_body (back folder.now spot.now.leaf.0) (slice_set (cells (take 480 spot.now.copy.bytes)) spot.now.place cell.now)) }
+// A leaf of a folder with another cell at one of its 15 places; zeros for a place beyond.
+pub(crate) fn cell_put(folder: &Node, spot: &Spot, cell: &[u8; 32]) -> Put
+    ensures { spot.now.place < 15 → result ≡ store (number (copied folder.now.slot) spot.now.leaf.0) (folder_body (back folder.now.handle spot.now.leaf.0) (slice_set (cells (take 480 spot.now.copy.bytes)) spot.now.place cell.now)) }
 {
-    let mut bytes = [0; 512];
     let line = Back {
-        owner: *folder,
+        owner: folder.handle,
         leaf: spot.leaf,
     };
-    encode_folder_change(
-        &mut bytes,
-        &line,
-        &spot.copy.bytes[0..480],
-        spot.place,
-        cell,
-    );
+    let change = encode_folder_change(&line, spot.copy.folder_bytes(), spot.place, cell);
     Put {
-        block: slot.number(spot.leaf),
-        bytes,
+        block: folder.slot.number(spot.leaf),
+        bytes: change.unwrap_or([0; 512]),
     }
 }
 
@@ -115,11 +112,9 @@ pub(crate) fn cell_put(folder: &Handle, slot: &SlotCopy, spot: &Spot, cell: &[u8
 pub(crate) fn new_put(child: &Handle, kind: Kind, folder: &Handle) -> Put
     ensures { child.now.slot.0 < 65535 → result ≡ store_slot child.now.slot.0 (new_slot kind folder.now child.now.identity.0) }
 {
-    let mut bytes = [0; 512];
-    encode_slot(&mut bytes, kind, child.identity, folder, &[]);
     Put {
-        block: BlockNo(after(child.slot.0)),
-        bytes,
+        block: block_of(child.slot),
+        bytes: encode_slot(kind, child.identity, folder, &[]).unwrap(),
     }
 }
 
@@ -127,17 +122,15 @@ pub(crate) fn new_put(child: &Handle, kind: Kind, folder: &Handle) -> Put
 pub(crate) fn first_put(at: BlockNo, line: &Back, cell: &[u8; 32]) -> Put
     ensures { result ≡ store at.0 (folder_body line.now (cell.now ∷ replicate 14 blank_cell)) }
 {
-    let mut bytes = [0; 512];
-    encode_folder_change(&mut bytes, line, &[0; 480], 0, cell);
-    Put { block: at, bytes }
+    Put {
+        block: at,
+        bytes: encode_folder_change(line, &[0; 480], 0, cell).unwrap(),
+    }
 }
 
-// The entry of a child under a name.
+// The entry of a child under a name; zeros for what is no name.
 pub(crate) fn entry_cell(name: &[u8], child: &Handle) -> [u8; 32]
     ensures { good_name name.now ≡ true → result ≡ entry_cell name.now child.now }
 {
-    match encode_entry(name, child) {
-        Some(cell) => cell,
-        None => [0; 32],
-    }
+    encode_entry(name, child).unwrap_or([0; 32])
 }

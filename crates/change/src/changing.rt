@@ -1,4 +1,4 @@
-// The slot of a handle for a changing call.
+// The file or folder of a changing call.
 ghost use Rattle.std.specs.Prelude.{◌≡◌, Ok};
 ghost use Rattle.layout.specs.Sizes.{sizes};
 ghost use Rattle.marks.specs.Laws.{Tells};
@@ -6,28 +6,30 @@ ghost use Rattle.rule.specs.Changing.{changing};
 ghost use Rattle.walk.specs.Copies.{copied};
 ghost use Rattle.walk.specs.Still.{Gives, shows};
 
+use crate::known::Known;
 use base::owner::{Handle, Kind};
 use base::refusal::Refusal;
 use device::Device;
-use layout::geometry::Geometry;
-use marks::mark::Marks;
-use walk::handle::{read_handle, want_kind};
-use walk::slot::SlotCopy;
+use walk::handle::read_handle;
+use walk::node::Node;
 
-// The slot, if it fits, is reached and is of this kind. One read.
+// The handle with its slot, if the slot fits, is reached and is of this kind. One read.
 pub(crate) fn read_changing<D: Device>(
     device: &mut D,
-    g: &Geometry,
-    marks: &Marks,
+    known: &Known,
     kind: Kind,
     handle: &Handle,
-) -> Result<SlotCopy, Refusal>
-    ensures { Tells (sizes g.now) (shows g.now (D.Device.model device.old)) marks.now → Gives g.now result (changing (sizes g.now) (shows g.now (D.Device.model device.old)) kind handle.now) (λ s. changing (sizes g.now) (shows g.now (D.Device.model device.old)) kind handle.now ≡ Ok (copied s)) (D.Device.model device.old) (D.Device.model device.new) }
+) -> Result<Node, Refusal>
+    ensures { Tells (sizes known.now.geometry) (shows known.now.geometry (D.Device.model device.old)) known.now.marks.now → Gives known.now.geometry result (changing (sizes known.now.geometry) (shows known.now.geometry (D.Device.model device.old)) kind handle.now) (λ x. (x.handle ≡ handle.now) × (changing (sizes known.now.geometry) (shows known.now.geometry (D.Device.model device.old)) kind x.handle ≡ Ok (copied x.slot))) (D.Device.model device.old) (D.Device.model device.new) }
 {
-    let slot = read_handle(device, g, handle)?;
-    if !marks.is_reached(handle.slot) {
+    let slot = read_handle(device, &known.geometry, handle)?;
+    if !known.marks.is_reached(handle.slot) {
         return Err(Refusal::NoSuchHandle(handle.slot));
     }
-    want_kind(kind, handle, &slot)?;
-    Ok(slot)
+    let node = Node {
+        handle: *handle,
+        slot,
+    };
+    node.want_kind(kind)?;
+    Ok(node)
 }

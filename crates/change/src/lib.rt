@@ -6,6 +6,7 @@ mod blocks;
 mod changing;
 pub mod create;
 pub mod drop;
+pub mod known;
 pub mod plan;
 pub mod remove;
 mod scan;

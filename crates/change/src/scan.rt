@@ -4,29 +4,29 @@ ghost use Rattle.base.specs.declared.owner.Kind.TheVariants.{Folder};
 ghost use Rattle.layout.specs.Format.{entry_of};
 ghost use Rattle.layout.specs.Head.{cells};
 ghost use Rattle.layout.specs.Sizes.{sizes};
-ghost use Rattle.rule.specs.Agree.{same_bytes};
 ghost use Rattle.rule.specs.Reading.{child_of};
 ghost use Rattle.walk.specs.Copies.{copied};
 ghost use Rattle.walk.specs.Still.{Says, shows};
 ghost use Rattle.change.specs.Scanning.{passes, PlaceIs, SpotIn, LeafScanned, Scanned};
 ghost use Rattle.change.specs.declared.scan.Sought.TheVariants.{Open};
 
+use crate::known::Known;
 use base::number::LeafNo;
 use base::owner::{Handle, Kind};
 use device::Device;
 use device::fault::Fault;
 use entries::entry::{Cell, cell_bytes, parse_cell};
 use layout::geometry::Geometry;
-use marks::mark::Marks;
-use walk::leaf::{LeafCopy, read_leaf};
+use walk::leaf::read_leaf;
+use walk::leaf_copy::LeafCopy;
+use walk::node::Node;
 use walk::path::ROOT;
-use walk::slot::SlotCopy;
 
 // What a scan looks for: any sound entry, a sound entry with the name, or a place that has no sound entry.
-#[derive(Clone, Copy)]
-pub enum Sought {
+#[derive(Clone, Copy, PartialEq, Eq, Debug)]
+pub enum Sought<'a> {
     Entry,
-    Named,
+    Named(&'a [u8]),
     Open,
 }
 
@@ -45,65 +45,28 @@ pub struct Scan {
     pub vacant: Option<Spot>,
 }
 
-fn is_same(a: &[u8], b: &[u8]) -> bool
-    ensures { result ≡ same_bytes a.now b.now }
-{
-    *a == *b
-}
-
-fn is_sought(
-    g: &Geometry,
-    marks: &Marks,
-    folder: &Handle,
-    sought: Sought,
-    name: &[u8],
-    bytes: &[u8],
-) -> bool
+fn is_sought(known: &Known, folder: &Handle, sought: Sought, bytes: &[u8]) -> bool
     requires { length bytes.now ≡ 32 }
-    ensures { result ≡ passes (sizes g.now) marks.now folder.now sought name.now bytes.now }
+    ensures { result ≡ passes (sizes known.now.geometry) known.now.marks.now folder.now sought.entry bytes.now }
 {
-    match (parse_cell(g, bytes), sought) {
-        (Cell::Used(e), Sought::Entry) => marks.is_child(folder, &e.child),
-        (Cell::Used(e), Sought::Named) => is_same(name, e.name) && marks.is_child(folder, &e.child),
-        (Cell::Used(e), Sought::Open) => !marks.is_child(folder, &e.child),
+    match (parse_cell(&known.geometry, bytes), sought) {
+        (Cell::Used(e), Sought::Entry) => known.marks.is_child(folder, &e.child),
+        (Cell::Used(e), Sought::Named(name)) => {
+            *name == *e.name && known.marks.is_child(folder, &e.child)
+        }
+        (Cell::Used(e), Sought::Open) => !known.marks.is_child(folder, &e.child),
         (_, Sought::Open) => true,
         _ => false,
     }
 }
 
-// The same at a place of a leaf, which has 480 bytes.
-fn is_sought_at(
-    g: &Geometry,
-    marks: &Marks,
-    folder: &Handle,
-    sought: Sought,
-    name: &[u8],
-    payload: &[u8],
-    place: usize,
-) -> bool
-    requires { (length payload.now ≡ 480) × (place < 15) }
-    ensures { result ≡ passes (sizes g.now) marks.now folder.now sought name.now (slice_index_or (cells payload.now) place []) }
-{
-    match cell_bytes(payload, place) {
-        Some(bytes) => is_sought(g, marks, folder, sought, name, bytes),
-        None => false,
-    }
-}
-
-// The first place among the 15 of a leaf.
-fn find_place(
-    g: &Geometry,
-    marks: &Marks,
-    folder: &Handle,
-    sought: Sought,
-    name: &[u8],
-    payload: &[u8],
-) -> Option<usize>
+// The first place among the 15 of a leaf, which has 480 bytes.
+fn find_place(known: &Known, folder: &Handle, sought: Sought, payload: &[u8]) -> Option<usize>
     requires { length payload.now ≡ 480 }
-    ensures { PlaceIs (sizes g.now) marks.now folder.now sought name.now (cells payload.now) result }
+    ensures { PlaceIs (sizes known.now.geometry) known.now.marks.now folder.now sought.entry (cells payload.now) result }
 {
-    for place in 0..15usize {
-        if is_sought_at(g, marks, folder, sought, name, payload, place) {
+    for (place, cell) in payload.chunks_exact(32).enumerate() {
+        if is_sought(known, folder, sought, cell) {
             return Some(place);
         }
     }
@@ -112,109 +75,81 @@ fn find_place(
 
 // The same with a copy of the leaf.
 fn spot_in(
-    g: &Geometry,
-    marks: &Marks,
+    known: &Known,
     folder: &Handle,
     sought: Sought,
-    name: &[u8],
     leaf: LeafNo,
     copy: &LeafCopy,
 ) -> Option<Spot>
-    ensures { SpotIn (sizes g.now) marks.now folder.now sought name.now leaf.0 copy.now result }
+    ensures { SpotIn (sizes known.now.geometry) known.now.marks.now folder.now sought.entry leaf.0 copy.now result }
 {
-    match find_place(g, marks, folder, sought, name, &copy.bytes[0..480]) {
-        Some(place) => Some(Spot {
-            leaf,
-            place,
-            copy: *copy,
-        }),
-        None => None,
-    }
+    let place = find_place(known, folder, sought, copy.folder_bytes())?;
+    Some(Spot {
+        leaf,
+        place,
+        copy: *copy,
+    })
 }
 
 // The open place that was met before, or the first one in this leaf.
 fn vacant_in(
-    g: &Geometry,
-    marks: &Marks,
+    known: &Known,
     folder: &Handle,
     leaf: LeafNo,
     copy: &LeafCopy,
     before: Option<Spot>,
 ) -> Option<Spot>
-    ensures { MatchOption before (SpotIn (sizes g.now) marks.now folder.now Open [] leaf.0 copy.now result) (λ y. result ≡ Some y) }
+    ensures { MatchOption before (SpotIn (sizes known.now.geometry) known.now.marks.now folder.now Open leaf.0 copy.now result) (λ y. result ≡ Some y) }
 {
-    match before {
-        Some(y) => Some(y),
-        None => spot_in(g, marks, folder, Sought::Open, &[], leaf, copy),
+    if before.is_some() {
+        return before;
     }
+    spot_in(known, folder, Sought::Open, leaf, copy)
 }
 
 // A leaf of the folder, if it is good. One read.
 fn scan_leaf<D: Device>(
     device: &mut D,
-    g: &Geometry,
-    marks: &Marks,
-    folder: &Handle,
-    slot: &SlotCopy,
+    known: &Known,
+    folder: &Node,
     sought: Sought,
-    name: &[u8],
     leaf: LeafNo,
     before: Option<Spot>,
 ) -> Result<Scan, Fault>
-    requires { slot.now.kind ≡ Folder }
-    ensures { Says g.now result (LeafScanned (sizes g.now) (shows g.now (D.Device.model device.old)) marks.now folder.now (copied slot.now) leaf.0 sought name.now before) (D.Device.model device.old) (D.Device.model device.new) }
+    requires { folder.now.slot.kind ≡ Folder }
+    ensures { Says known.now.geometry result (LeafScanned (sizes known.now.geometry) (shows known.now.geometry (D.Device.model device.old)) known.now.marks.now folder.now.handle (copied folder.now.slot) leaf.0 sought.entry before) (D.Device.model device.old) (D.Device.model device.new) }
 {
-    let copy = read_leaf(device, g, *folder, slot, leaf)?;
-    match copy {
-        Some(l) => {
-            let found = spot_in(g, marks, folder, sought, name, leaf, &l);
-            let vacant = vacant_in(g, marks, folder, leaf, &l, before);
-            Ok(Scan { found, vacant })
-        }
-        None => Ok(Scan {
+    let Some(copy) = read_leaf(device, &known.geometry, folder, leaf)? else {
+        return Ok(Scan {
             found: None,
             vacant: before,
-        }),
-    }
+        });
+    };
+    let found = spot_in(known, &folder.handle, sought, leaf, &copy);
+    let vacant = vacant_in(known, &folder.handle, leaf, &copy, before);
+    Ok(Scan { found, vacant })
 }
 
-// The leaves of a folder, whose slot is given, up to the first place that is sought; each is read once. A file has none.
+// The leaves of a folder up to the first place that is sought; each is read once. A file has none.
 pub(crate) fn scan_folder<D: Device>(
     device: &mut D,
-    g: &Geometry,
-    marks: &Marks,
-    folder: &Handle,
-    slot: &SlotCopy,
+    known: &Known,
+    folder: &Node,
     sought: Sought,
-    name: &[u8],
 ) -> Result<Scan, Fault>
-    ensures { Says g.now result (Scanned (sizes g.now) (shows g.now (D.Device.model device.old)) marks.now folder.now (copied slot.now) sought name.now) (D.Device.model device.old) (D.Device.model device.new) }
+    ensures { Says known.now.geometry result (Scanned (sizes known.now.geometry) (shows known.now.geometry (D.Device.model device.old)) known.now.marks.now folder.now.handle (copied folder.now.slot) sought.entry) (D.Device.model device.old) (D.Device.model device.new) }
 {
     let mut vacant = None;
-    match slot.kind {
-        Kind::File => {
-            return Ok(Scan {
-                found: None,
-                vacant: None,
-            });
-        }
-        Kind::Folder => {}
-    }
-    for k in 0..slot.count {
-        let here = scan_leaf(
-            device,
-            g,
-            marks,
-            folder,
-            slot,
-            sought,
-            name,
-            LeafNo(k),
+    if folder.slot.kind == Kind::File {
+        return Ok(Scan {
+            found: None,
             vacant,
-        )?;
-        match here.found {
-            Some(_) => return Ok(here),
-            None => {}
+        });
+    }
+    for k in 0..folder.slot.count {
+        let here = scan_leaf(device, known, folder, sought, LeafNo(k), vacant)?;
+        if here.found.is_some() {
+            return Ok(here);
         }
         vacant = here.vacant;
     }
@@ -231,8 +166,7 @@ fn child_in(g: &Geometry, bytes: &[u8]) -> Handle
 {
     match parse_cell(g, bytes) {
         Cell::Used(e) => e.child,
-        Cell::Blank => ROOT,
-        Cell::IllFormed => ROOT,
+        Cell::Blank | Cell::IllFormed => ROOT,
     }
 }
 
@@ -240,7 +174,7 @@ fn child_in(g: &Geometry, bytes: &[u8]) -> Handle
 pub(crate) fn child_at(g: &Geometry, spot: &Spot) -> Handle
     ensures { spot.now.place < 15 → result ≡ child_of (entry_of (sizes g.now) (slice_index_or (cells (take 480 spot.now.copy.bytes)) spot.now.place [])) }
 {
-    match cell_bytes(&spot.copy.bytes[0..480], spot.place) {
+    match cell_bytes(spot.copy.folder_bytes(), spot.place) {
         Some(bytes) => child_in(g, bytes),
         None => ROOT,
     }

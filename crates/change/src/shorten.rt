@@ -3,7 +3,6 @@ ghost use Rattle.std.specs.Prelude.{◌≡◌, Ok};
 ghost use Rattle.base.specs.declared.owner.Kind.TheVariants.{File};
 ghost use Rattle.device.specs.Model.{Model};
 ghost use Rattle.layout.specs.Sizes.{sizes};
-ghost use Rattle.layout.specs.declared.geometry.Geometry.{Geometry as CardGeometry};
 ghost use Rattle.rule.specs.Changing.{changing, shorten};
 ghost use Rattle.walk.specs.Copies.{copied};
 ghost use Rattle.walk.specs.Still.{Gives, shows};
@@ -11,51 +10,38 @@ ghost use Rattle.change.specs.Plans.{card_view, Grounded, Decides, ShortenPlanne
 
 use crate::blocks::cut_put;
 use crate::changing::read_changing;
-use crate::plan::{Memory, ShortenPlan, no_puts, one_put};
+use crate::known::Known;
+use crate::plan::{Accepted, planned};
 use base::number::LeafNo;
 use base::owner::{Handle, Kind};
 use base::refusal::Refusal;
 use device::Device;
-use layout::geometry::Geometry;
-use marks::mark::Marks;
-use walk::slot::SlotCopy;
+use walk::node::Node;
 
-// The file's slot is given.
-fn shorten_slot(
-    memory: &Memory,
-    file: &Handle,
-    slot: &SlotCopy,
-    n: LeafNo,
-) -> Result<ShortenPlan, Refusal>
-    ensures { (g : CardGeometry) (m : Model) → changing (sizes g) (shows g m) File file.now ≡ Ok (copied slot.now) → Decides result (shorten file.now n.0 (card_view g memory.now) m.shown) (ShortenPlanned g m memory.now file.now n.0) }
+fn shorten_file(known: &Known, file: Node, n: LeafNo) -> Result<Accepted<Node>, Refusal>
+    ensures { (m : Model) → changing (sizes known.now.geometry) (shows known.now.geometry m) File file.handle ≡ Ok (copied file.slot) → Decides result (shorten file.handle n.0 (card_view known.now.geometry known.now.memory) m.shown) (ShortenPlanned known.now.geometry m known.now.memory file.handle n.0) }
 {
-    if n.0 > slot.count {
+    if n.0 > file.slot.count {
         return Err(Refusal::NoSuchLeaf(n));
     }
-    if n.0 == slot.count {
-        return Ok(ShortenPlan {
-            plan: no_puts(*memory),
-            slot: *slot,
-        });
-    }
-    let put = cut_put(file.slot, slot, n.0);
-    Ok(ShortenPlan {
-        plan: one_put(put, *memory),
-        slot: *slot,
-    })
+    let plan = if n.0 == file.slot.count {
+        planned(&[], known.memory)
+    } else {
+        let put = cut_put(file.handle.slot, &file.slot, n.0);
+        planned(&[put], known.memory)
+    };
+    Ok(Accepted { plan, change: file })
 }
 
-// The file keeps its first n leaves. Only its slot is read.
+// The file keeps its first n leaves: the plan, and the file as it was. Only its slot is read.
 pub fn plan_shorten<D: Device>(
     device: &mut D,
-    g: &Geometry,
-    memory: &Memory,
-    marks: &Marks,
+    known: &Known,
     file: &Handle,
     n: LeafNo,
-) -> Result<ShortenPlan, Refusal>
-    ensures { Grounded g.now (D.Device.model device.old) marks.now → Gives g.now result (shorten file.now n.0 (card_view g.now memory.now) (D.Device.model device.old).shown) (ShortenPlanned g.now (D.Device.model device.old) memory.now file.now n.0) (D.Device.model device.old) (D.Device.model device.new) }
+) -> Result<Accepted<Node>, Refusal>
+    ensures { Grounded known.now.geometry (D.Device.model device.old) known.now.marks.now → Gives known.now.geometry result (shorten file.now n.0 (card_view known.now.geometry known.now.memory) (D.Device.model device.old).shown) (ShortenPlanned known.now.geometry (D.Device.model device.old) known.now.memory file.now n.0) (D.Device.model device.old) (D.Device.model device.new) }
 {
-    let slot = read_changing(device, g, marks, Kind::File, file)?;
-    shorten_slot(memory, file, &slot, n)
+    let file = read_changing(device, known, Kind::File, file)?;
+    shorten_file(known, file, n)
 }

@@ -1,8 +1,9 @@
 -- What holds of the model of plain bytes.
-use Rattle.std.proofs.Common.{◌≡◌, ℕ, ◌+◌, ◌*◌, ◌<◌, ◌≤◌, ◌⊎◌, List, ◌++◌, length, take, drop, sym, refl, ap, ◌∙◌, inl, inr, ⊎_elim, arith}
+use Rattle.std.proofs.Common.{◌≡◌, ℕ, zero, suc, ◌+◌, ◌*◌, ◌<◌, ◌≤◌, ◌⊎◌, List, [], ◌++◌, length, get_or, take, drop, sym, refl, ap, ◌∙◌, inl, inr, ⊎_elim, arith}
 use mathlib.Core.Path.{fun_ext}
 use Rattle.std.proofs.lemmas.Slice.{take-put_mid_below, drop-put_mid}
-use Rattle.std.proofs.lemmas.List.{drop-take, drop_at, take_at, length-take-le}
+use Rattle.std.specs.Simd.{first_chunks}
+use Rattle.std.proofs.lemmas.List.{drop-drop, drop-take, drop_at, take_at, length-take-le}
 use Rattle.std.proofs.lemmas.Bool.{cases_order, eq-eqb, ne_eqb}
 use Rattle.device.specs.Model.{In, Stayed, Written, Settled, put}
 use Rattle.device.specs.Plain.{plain, block, stored}
@@ -57,3 +58,9 @@ plain_stayed xs =
 pub plain_settled : (xs : List ℕ) → Settled (plain xs) (plain xs)
 unfolding In
 plain_settled xs = record { stayed = plain_stayed xs; only = λ i x. ⊎_elim (λ e. e) absurd }
+
+-- the chunks of n bytes lie one after another
+pub chunk_at : (n k : ℕ) (xs : List ℕ) (b : ℕ) → b < k → get_or (first_chunks n k xs) b [] ≡ take n (drop (n * b) xs)
+chunk_at n zero xs b l = absurd (omega arith)
+chunk_at n (suc k) xs zero l = let e : n * 0 ≡ 0 = omega arith in rw e
+chunk_at n (suc k) xs (suc b) l = let ih = chunk_at n k (drop n xs) b (omega arith) in let e : n * suc b ≡ n + n * b = omega arith in rw (ih, drop-drop, e)

@@ -1,5 +1,5 @@
 -- What each call of a device says, by its answer: of the model m before the call and n after it.
-use Rattle.std.specs.Prelude.{◌≡◌, ◌<◌, ◌≤◌, Bool, true, false, ◌⊎◌, Result, MatchResult}
+use Rattle.std.specs.Prelude.{◌≡◌, ℕ, ◌<◌, ◌≤◌, Bool, true, false, ◌⊎◌, List, Result, codes, MatchResult}
 use Rattle.device.specs.Model.{Model, Block, Written, Torn, Stayed, Lost, Settled}
 use Rattle.base.specs.declared.number.BlockNo.{BlockNo}
 use Rattle.base.specs.declared.refusal.Refusal.{Refusal}
@@ -16,6 +16,15 @@ refusal_of (NoSuchBlock b) = NoSuchBlockRefusal b
 abbrev pub power_gone : Fault → Bool
 power_gone (PowerGone b) = true
 power_gone (NoSuchBlock b) = false
+
+-- what is printed of a fault, and of the answer of a sync
+abbrev pub fault_text : Fault → List ℕ
+fault_text (PowerGone b) = codes "power gone"
+fault_text (NoSuchBlock b) = codes "no such block"
+
+abbrev pub synced_text : Synced → List ℕ
+synced_text SettledAnswer = codes "settled"
+synced_text Unsure = codes "unsure"
 
 -- the block called is past the end, and nothing changed. Power was on: power gone is told first
 pub record Missing (b p : BlockNo) (m n : Model) : Type 0 where

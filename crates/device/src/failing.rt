@@ -1,5 +1,5 @@
 // The failing card, over any device: it passes a given number of accepted writes, and has no power from the next write on.
-ghost use Rattle.std.specs.Prelude.{◌≡◌, true, false, Err, MatchBool};
+ghost use Rattle.std.specs.Prelude.{◌≡◌, Some, Err, MatchBool, MatchOption};
 ghost use Rattle.device.specs.Answers.{Read, Write, Sync};
 ghost use Rattle.device.specs.Failing.{failing, spent, Refuses, Fails, Passes, PassesWrite};
 ghost use Rattle.device.specs.declared.fault.Fault.TheVariants.{PowerGone};
@@ -11,19 +11,18 @@ use base::number::BlockNo;
 #[derive(Drop)]
 pub struct Failing<D> {
     below: D,
-    left: u32,
-    gone: bool,
+    // How many more writes are passed on. None: the power is gone.
+    left: Option<u32>,
 }
 
 impl<D: Device> Failing<D> {
     // A card that loses its power once `writes` writes were accepted.
     pub fn new(below: D, writes: u32) -> Failing<D>
-        ensures { (result.below ≡ below) × (result.left ≡ writes) × (result.gone ≡ false) }
+        ensures { (result.below ≡ below) × (result.left ≡ Some writes) }
     {
         Failing {
             below,
-            left: writes,
-            gone: false,
+            left: Some(writes),
         }
     }
 
@@ -36,40 +35,40 @@ impl<D: Device> Failing<D> {
 }
 
 impl<D: Device> Device for Failing<D> {
-    ghost model = { λ f. failing f.gone (D.Device.model f.below) };
+    ghost model = { λ f. failing f.left (D.Device.model f.below) };
 
     fn count(&self) -> u16 {
         self.below.count()
     }
 
     fn read(&mut self, at: BlockNo) -> Result<[u8; 512], Fault>
-        ensures answer { Read at result (failing self.old.gone (D.Device.model self.old.below)) (failing self.new.gone (D.Device.model self.new.below)) }
-        ensures exact { MatchBool self.old.gone (Refuses at result self.old self.new) (Passes self.old self.new (Read at result (D.Device.model self.old.below) (D.Device.model self.new.below))) }
+        ensures answer { Read at result (failing self.old.left (D.Device.model self.old.below)) (failing self.new.left (D.Device.model self.new.below)) }
+        ensures exact { MatchOption self.old.left (Refuses at result self.old self.new) (λ _. Passes self.old self.new (Read at result (D.Device.model self.old.below) (D.Device.model self.new.below))) }
     {
-        if self.gone {
+        if self.left.is_none() {
             return Err(Fault::PowerGone(at));
         }
         self.below.read(at)
     }
 
     fn write(&mut self, at: BlockNo, bytes: &[u8; 512]) -> Result<(), Fault>
-        ensures answer { Write at bytes.now result (failing self.old.gone (D.Device.model self.old.below)) (failing self.new.gone (D.Device.model self.new.below)) }
-        ensures exact { MatchBool (spent self.old) (Fails at result self.old self.new) (PassesWrite result self.old self.new (Write at bytes.now result (D.Device.model self.old.below) (D.Device.model self.new.below))) }
+        ensures answer { Write at bytes.now result (failing self.old.left (D.Device.model self.old.below)) (failing self.new.left (D.Device.model self.new.below)) }
+        ensures exact { MatchBool (spent self.old.left) (Fails at result self.old self.new) (PassesWrite result self.old self.new (Write at bytes.now result (D.Device.model self.old.below) (D.Device.model self.new.below))) }
     {
-        if self.gone || self.left == 0 {
-            self.gone = true;
+        let Some(left @ 1..) = self.left else {
+            self.left = None;
             return Err(Fault::PowerGone(at));
-        }
+        };
         self.below.write(at, bytes)?;
-        self.left -= 1;
+        self.left = Some(left - 1);
         Ok(())
     }
 
     fn sync(&mut self) -> Result<Synced, Fault>
-        ensures answer { Sync result (failing self.old.gone (D.Device.model self.old.below)) (failing self.new.gone (D.Device.model self.new.below)) }
-        ensures exact { MatchBool self.old.gone (Refuses (record { 0 = 65535 }) result self.old self.new) (Passes self.old self.new (Sync result (D.Device.model self.old.below) (D.Device.model self.new.below))) }
+        ensures answer { Sync result (failing self.old.left (D.Device.model self.old.below)) (failing self.new.left (D.Device.model self.new.below)) }
+        ensures exact { MatchOption self.old.left (Refuses (record { 0 = 65535 }) result self.old self.new) (λ _. Passes self.old self.new (Sync result (D.Device.model self.old.below) (D.Device.model self.new.below))) }
     {
-        if self.gone {
+        if self.left.is_none() {
             return Err(Fault::PowerGone(WHOLE));
         }
         self.below.sync()

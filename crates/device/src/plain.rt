@@ -14,6 +14,13 @@ pub struct Plain<'a> {
     image: &'a mut [u8],
 }
 
+// How many blocks an image has: the whole ones, at most 4096.
+pub fn whole_blocks(image: &[u8]) -> u16
+    ensures { result ≡ blocks_in image.now }
+{
+    (image.len() / 512).min(4096) as u16
+}
+
 impl<'a> Plain<'a> {
     pub fn new(image: &'a mut [u8]) -> Plain<'a>
         ensures { (result.image.now ≡ image.old) × (result.image.ghost_name ≡ image.entry.ghost_name) }
@@ -31,20 +38,19 @@ impl<'a> Plain<'a> {
     fn blocks(&self) -> u16
         ensures { result ≡ blocks_in self.now.image.now }
     {
-        (self.image.len() / 512).min(4096) as u16
+        whole_blocks(self.image)
     }
 
     fn fetch(&self, b: u16) -> [u8; 512]
         requires { b < length self.now.image.now / 512 }
         ensures { result ≡ block self.now.image.now b }
     {
-        let start = 512 * b as usize;
-        let mut out = [0u8; 512];
-        out.copy_from_slice(&self.image[start..start + 512]);
-        out
+        let (blocks, _) = self.image.as_chunks::<512>();
+        blocks[b as usize]
     }
 }
 
+// Kept: the library says nothing of what a slice ends as after as_chunks_mut, so no proof closes over it.
 fn store(image: &mut [u8], b: u16, bytes: &[u8; 512])
     requires { b < length image.old / 512 }
     ensures { image.new ≡ stored image.old b bytes.now }

@@ -21,25 +21,28 @@ pub fn three(writes: u32) -> [Result<(), Fault>; 3] {
     [a, b, c]
 }
 
+// The first byte of each of the first N blocks of an image.
+fn first_bytes<const N: usize>(image: &[u8]) -> [u8; N] {
+    let mut first = [0u8; N];
+    for (byte, block) in first.iter_mut().zip(image.chunks_exact(512)) {
+        *byte = block[0];
+    }
+    first
+}
+
 // The first byte of each block below, after nine writes to a buffered card in the given order; the n-th writes byte n.
 pub fn below_after(order: [u16; 9], sync: bool) -> [u8; 12] {
     let mut image = [0u8; 6144];
     {
         let mut card = Buffered::new(Plain::new(&mut image));
-        let mut n = 0u8;
-        for b in order {
-            n = n.wrapping_add(1);
+        for (n, b) in (1u8..=9).zip(order) {
             let _ = card.write(BlockNo(b), &[n; 512]);
         }
         if sync {
             let _ = card.sync();
         }
     }
-    let mut first = [0u8; 12];
-    for i in 0..12usize {
-        first[i] = image[512 * i];
-    }
-    first
+    first_bytes(&image)
 }
 
 // The first bytes of a card of four blocks once blocks 1 and 3 were to be written as one, and what was answered.
@@ -59,7 +62,7 @@ pub fn pair(writes: u32, second: u16) -> (Result<(), Fault>, [u8; 4]) {
         let mut card = Failing::new(Plain::new(&mut image), writes);
         write_all(&mut card, &puts)
     };
-    (answer, [image[0], image[512], image[1024], image[1536]])
+    (answer, first_bytes(&image))
 }
 
 #[cfg(test)]

@@ -3,8 +3,10 @@ use Rattle.std.proofs.Common.{◌≡◌, ℕ, zero, suc, ◌+◌, ◌-◌, ◌*�
 use lib.Seq.{take-append-add, drop-append-add}
 use borrow.Rule.Slice.PartMut.{put_mid}
 use Rattle.std.proofs.lemmas.List.{take_all, take-append-le, drop-append-le, drop-drop, length-append, length-take-le, length-drop}
-use Rattle.layout.specs.Format.{cells_of, cells_bytes, padded}
+use Rattle.base.specs.declared.owner.Back.{Back}
+use Rattle.layout.specs.Format.{cells_of, cells_bytes, padded, folder_body, encode}
 use Rattle.layout.specs.Head.{cells}
+use Rattle.encode.specs.Heads.{body_head_bytes}
 
 cells_of_bytes : (n : ℕ) (z : List ℕ) → cells_bytes (cells_of n z) ≡ take (32 * n) z
 cells_of_bytes zero z = refl
@@ -60,11 +62,18 @@ module _ (h z e t : List ℕ) (k : ℕ) (lh : length h ≡ 16) (lz : length z �
       let a : length (take (32 * k) z) ≡ 32 * k = length-take-le (32 * k) z (omega arith) in
       ap length (patched k z e lz lt) ∙ simp (length-append, length-drop) (omega arith)
 
--- the block with one cell written over
-pub changed_block : (o h z e x : List ℕ) (k : ℕ) → length h ≡ 16 → length z ≡ 480 → k < 15 → length e ≡ 32 → o ≡ h ++ padded 496 z → x ≡ e → put_mid (16 + 32 * k) (16 + 32 * k + 32 - (16 + 32 * k)) o x ≡ h ++ padded 496 (cells_bytes (set (cells z) k e))
-changed_block o h z e x k lh lz lt le eo ex =
+-- the block of a leaf, and the same with one cell written over
+pub folder_block : (b : Back) (z : List ℕ) → length z ≡ 480 → body_head_bytes 5 b (length z) ++ padded 496 z ≡ encode (folder_body b (cells z))
+unfolding encode
+folder_block b z len =
+    ap (λ n. body_head_bytes 5 b n ++ padded 496 z) len ∙ ap (λ x. body_head_bytes 5 b 480 ++ padded 496 x) (sym (bytes_whole z len))
+
+pub changed_block : (b : Back) (z e o x : List ℕ) (k : ℕ) → length z ≡ 480 → k < 15 → length e ≡ 32 → o ≡ encode (folder_body b (cells z)) → x ≡ e → put_mid (16 + 32 * k) (16 + 32 * k + 32 - (16 + 32 * k)) o x ≡ encode (folder_body b (set (cells z) k e))
+unfolding encode
+changed_block b z e o x k lz lt le eo ex =
+    let h : List ℕ = body_head_bytes 5 b 480 in
     let t : List ℕ = replicate (496 - length z) 0 in
-    let n : 496 - length z ≡ 496 - length (cells_bytes (set (cells z) k e)) = omega (arith, patched_length h z e t k lh lz lt le) in
-    ap (λ y. put_mid (16 + 32 * k) (16 + 32 * k + 32 - (16 + 32 * k)) y x) eo
+    let n : 496 - length z ≡ 496 - length (cells_bytes (set (cells z) k e)) = omega (arith, patched_length h z e t k refl lz lt le) in
+    ap (λ y. put_mid (16 + 32 * k) (16 + 32 * k + 32 - (16 + 32 * k)) y x) (eo ∙ ap (λ c. h ++ padded 496 c) (bytes_whole z lz))
     ∙ ap (put_mid (16 + 32 * k) (16 + 32 * k + 32 - (16 + 32 * k)) (h ++ padded 496 z)) ex
-    ∙ changed h z e t k lh lz lt ∙ ap (λ m. h ++ (cells_bytes (set (cells z) k e) ++ replicate m 0)) n
+    ∙ changed h z e t k refl lz lt ∙ ap (λ m. h ++ (cells_bytes (set (cells z) k e) ++ replicate m 0)) n

@@ -1,13 +1,15 @@
--- The bytes of numbers, one more at a time.
-use Rattle.std.proofs.Common.{◌≡◌, ℕ, suc, ◌+◌, ◌-◌, ◌*◌, ◌<◌, ◌≤◌, List, [], ◌∷◌, ◌++◌, length, get_or, take, drop, set, replicate, sym, refl, ap, ◌∙◌, append_assoc, arith}
-use Rattle.std.proofs.lemmas.List.{set_at, map-set, drop_more, take_more, map_push, take_all, length-append, length-take-le, length-replicate, drop-replicate, replicate-append-replicate}
+-- The numbers of a slot, one more at a time, and their bytes.
+use Rattle.std.proofs.Common.{◌≡◌, ℕ, ◌+◌, ◌-◌, ◌*◌, ◌<◌, ◌≤◌, List, [], ◌∷◌, ◌++◌, length, get_or, take, set, replicate, Option, None, Some, MatchOption, sym, refl, ap, ◌∙◌, append_assoc, arith, get_or-set_other, get_or-set_same, below_more}
+use Rattle.std.specs.Option.{unwrap_or}
+use borrow.Rule.Slice.PartMut.{put_mid}
+use Rattle.std.proofs.lemmas.List.{take_at, drop_at, take_more, ext_get_or, get_or_past, length-set, get_or-map, get_or-take, map_push, length-append, length-map, length-take-le, length-replicate, drop-replicate, replicate-append-replicate}
 use Rattle.base.specs.declared.number.BlockNo.{BlockNo}
-use Rattle.layout.specs.Format.{two, numbers_bytes, padded}
-use Rattle.encode.specs.Heads.{plain, slot_head_bytes, Copied}
-use Rattle.base.specs.declared.owner.Kind.{Kind}
 use Rattle.base.specs.declared.owner.Handle.{Handle}
+use Rattle.base.specs.declared.owner.Kind.{Kind}
+use Rattle.layout.specs.Format.{two, numbers_bytes, padded, slotted, encode}
+use Rattle.encode.specs.Heads.{plain, slot_head_bytes, slot_record, Begins}
 
-pub length_numbers_bytes : (ns : List ℕ) → length (numbers_bytes ns) ≡ 2 * length ns
+length_numbers_bytes : (ns : List ℕ) → length (numbers_bytes ns) ≡ 2 * length ns
 length_numbers_bytes [] = refl
 length_numbers_bytes (n ∷ ns) = let e = length_numbers_bytes ns in omega arith
 
@@ -15,72 +17,67 @@ numbers_bytes_push : (ns : List ℕ) (n : ℕ) → numbers_bytes (ns ++ n ∷ []
 numbers_bytes_push [] n = refl
 numbers_bytes_push (m ∷ ns) n = ap (two m) (numbers_bytes_push ns n)
 
--- two bytes written at the end of p
-two_set : (p : List ℕ) (x y a b : ℕ) (ys : List ℕ) (n : ℕ) → length p ≡ n → set (set (p ++ x ∷ y ∷ ys) n a) (n + 1) b ≡ p ++ (a ∷ b ∷ ys)
-two_set p x y a b ys n len =
-    ap (λ z. set z (n + 1) b) (set_at p x (y ∷ ys) a n len ∙ sym (append_assoc p (a ∷ []) (y ∷ ys)))
-    ∙ set_at (p ++ a ∷ []) y ys b (n + 1) (simp length-append (omega arith)) ∙ append_assoc p (a ∷ []) (b ∷ ys)
-
 length_plain : (ns : List BlockNo) → length (plain ns) ≡ length ns
-length_plain [] = refl
-length_plain (n ∷ ns) = ap suc (length_plain ns)
+length_plain ns = length-map ns (λ (b : BlockNo). b.0)
 
--- so far the first k numbers are written
-abbrev pub Sofar : List ℕ → List BlockNo → ℕ → List ℕ → Type 0
-Sofar z ns k o = o ≡ numbers_bytes (plain (take k ns)) ++ drop (2 * k) z
+length_bytes : (ns : List BlockNo) → length (numbers_bytes (plain ns)) ≡ 2 * length ns
+length_bytes ns = length_numbers_bytes (plain ns) ∙ ap (λ n. 2 * n) (length_plain ns)
 
-pub none_yet : (z : List ℕ) (ns : List BlockNo) → Sofar z ns 0 z
-none_yet z ns = refl
+-- two bytes written over zeros
+written_more : (p t : List ℕ) (k : ℕ) → length p ≡ 2 * k → length t ≡ 2 → put_mid (2 * k) (2 * k + 2 - 2 * k) (padded 128 p) t ≡ padded 128 (p ++ t)
+written_more p t k lp lt =
+    let z : List ℕ = replicate (128 - length p) 0 in
+    let m : 128 - length p - (2 * k + 2 - 2 * k) ≡ 128 - length (p ++ t) = omega (arith, length-append p t) in
+    rw (take_at p z (2 * k) lp, drop_at p z (2 * k) lp, drop-replicate, m) (sym (append_assoc p t (replicate (128 - length (p ++ t)) 0)))
 
-pub one_more : (z : List ℕ) (ns : List BlockNo) (k : ℕ) (o w : List ℕ) (d : BlockNo) (a b : ℕ) → 2 * k + 1 < length z → k < length ns → Sofar z ns k o → a ∷ b ∷ [] ≡ two (get_or ns k d).0 [] → w ≡ set (set o (2 * k) a) (2 * k + 1) b → Sofar z ns (k + 1) w
-one_more z ns k o w d a b hz hk e eab ew =
+pub one_more : (ns : List BlockNo) (k : ℕ) (d : BlockNo) (o t : List ℕ) → k < length ns → o ≡ padded 128 (numbers_bytes (plain (take k ns))) → t ≡ two (get_or ns k d).0 [] → put_mid (2 * k) (2 * k + 2 - 2 * k) o t ≡ padded 128 (numbers_bytes (plain (take (k + 1) ns)))
+one_more ns k d o t lt eo et =
     let p : List ℕ = numbers_bytes (plain (take k ns)) in
-    let lp : length p ≡ 2 * k = length_numbers_bytes (plain (take k ns)) ∙ ap (λ n. 2 * n) (length_plain (take k ns) ∙ length-take-le k ns (omega arith)) in
-    let more : drop (2 * k) z ≡ get_or z (2 * k) 0 ∷ get_or z (2 * k + 1) 0 ∷ drop (2 * k + 1 + 1) z = drop_more z (2 * k) 0 (omega arith) ∙ ap (λ x. get_or z (2 * k) 0 ∷ x) (drop_more z (2 * k + 1) 0 hz) in
-    let n : 2 * k + 1 + 1 ≡ 2 * (k + 1) = omega arith in
-    ew ∙ ap (λ x. set (set x (2 * k) a) (2 * k + 1) b) (e ∙ ap (λ x. p ++ x) more)
-    ∙ two_set p (get_or z (2 * k) 0) (get_or z (2 * k + 1) 0) a b (drop (2 * k + 1 + 1) z) (2 * k) lp
-    ∙ sym (append_assoc p (a ∷ b ∷ []) (drop (2 * k + 1 + 1) z))
-    ∙ ap (λ x. (p ++ x) ++ drop (2 * k + 1 + 1) z) eab
-    ∙ ap (λ x. x ++ drop (2 * k + 1 + 1) z) (sym (numbers_bytes_push (plain (take k ns)) (get_or ns k d).0) ∙ ap numbers_bytes (sym (map_push (λ (x : BlockNo). x.0) (take k ns) (get_or ns k d)) ∙ ap plain (sym (take_more ns k d hk))))
-    ∙ ap (λ i. numbers_bytes (plain (take (k + 1) ns)) ++ drop i z) n
-
-pub all_written : (z : List ℕ) (ns : List BlockNo) (k : ℕ) (o : List ℕ) → length ns ≡ k → Sofar z ns k o → o ≡ numbers_bytes (plain ns) ++ drop (2 * length ns) z
-all_written z ns k o len e =
-    e ∙ ap (λ x. numbers_bytes (plain x) ++ drop (2 * k) z) (take_all k ns (omega arith)) ∙ ap (λ i. numbers_bytes (plain ns) ++ drop (2 * i) z) (sym len)
+    let n : ℕ = (get_or ns k d).0 in
+    let len : length p ≡ 2 * k = length_bytes (take k ns) ∙ ap (λ i. 2 * i) (length-take-le k ns (omega arith)) in
+    let more : plain (take (k + 1) ns) ≡ plain (take k ns) ++ n ∷ [] = ap plain (take_more ns k d lt) ∙ map_push (λ (b : BlockNo). b.0) (take k ns) (get_or ns k d) in
+    rw (eo, et) (written_more p (two n []) k len refl ∙ ap (padded 128) (sym (ap numbers_bytes more ∙ numbers_bytes_push (plain (take k ns)) n)))
 
 -- zeros that follow are part of the padding
-pad_more : (p : List ℕ) (j m n : ℕ) → length p ≡ j → j ≤ m → m ≤ n → padded n (p ++ drop j (replicate m 0)) ≡ padded n p
-pad_more p j m n len jm mn =
-    let all : length (p ++ replicate (m - j) 0) ≡ m = simp (length-append, length-replicate) (omega arith) in
-    let sum : m - j + (n - m) ≡ n - length p = omega arith in
-    ap (λ x. padded n (p ++ x)) (drop-replicate j m 0)
-    ∙ append_assoc p (replicate (m - j) 0) (replicate (n - length (p ++ replicate (m - j) 0)) 0)
-    ∙ ap (λ i. p ++ (replicate (m - j) 0 ++ replicate (n - i) 0)) all
-    ∙ ap (λ x. p ++ x) (replicate-append-replicate (m - j) (n - m) 0)
-    ∙ ap (λ i. p ++ replicate i 0) sum
+padded_more : (z : List ℕ) (m n : ℕ) → length z ≤ m → m ≤ n → padded n (padded m z) ≡ padded n z
+padded_more z m n lm mn =
+    let all : n - length (padded m z) ≡ n - m = omega (arith, length-append z (replicate (m - length z) 0), length-replicate {A = ℕ} (m - length z) 0) in
+    let sum : m - length z + (n - m) ≡ n - length z = omega arith in
+    rw (all, append_assoc, replicate-append-replicate, sum) refl
+
+pub begins_more : (ns : List ℕ) (bs : List BlockNo) (n : ℕ) (b : BlockNo) → n < 64 → Begins ns bs n → b.0 ≡ get_or ns n 0 → Begins ns (set bs n b) (n + 1)
+begins_more ns bs n b lt h e =
+    record {
+      size = length-set bs n b ∙ h.size;
+      each =
+          below_more _ _
+          (λ j l. ap (λ (x : BlockNo). x.0) (get_or-set_other bs n j b (record { 0 = 0 }) (omega arith)) ∙ h.each j l)
+          (ap (λ (x : BlockNo). x.0) (get_or-set_same bs n b (record { 0 = 0 }) (omega (arith, h.size))) ∙ e);
+    }
+
+-- the first n of them
+pub begins_plain : (ns : List ℕ) (bs : List BlockNo) (n : ℕ) → Begins ns bs 64 → n ≤ length ns → n ≤ 64 → plain (take n bs) ≡ take n ns
+begins_plain ns bs n h low few =
+    ext_get_or 0 (plain (take n bs)) (take n ns) (size ∙ sym (length-take-le n ns low)) at
+  where
+    size : length (plain (take n bs)) ≡ n
+    size = length_plain (take n bs) ∙ length-take-le n bs (omega (arith, h.size))
+
+    at : (i : ℕ) → i < length (plain (take n bs)) → get_or (plain (take n bs)) i 0 ≡ get_or (take n ns) i 0
+    at i l =
+        let j : i < n = omega (arith, size) in
+        get_or-map (λ (x : BlockNo). x.0) (take n bs) i (record { 0 = 0 }) 0 (omega (arith, length-take-le n bs (omega (arith, h.size))))
+        ∙ ap (λ (x : BlockNo). x.0) (get_or-take n bs i (record { 0 = 0 }) j)
+        ∙ h.each i (omega arith) ∙ sym (get_or-take n ns i 0 j)
+
+-- a number that a slot has or has not
+pub number_or_zero : (ns : List ℕ) (k : ℕ) (o : Option BlockNo) (b : BlockNo) → MatchOption o (length ns ≤ k) (λ x. (k < length ns) × (x.0 ≡ get_or ns k 0)) → b ≡ unwrap_or o (record { 0 = 0 }) → b.0 ≡ get_or ns k 0
+number_or_zero ns k None b w e = ap (λ (x : BlockNo). x.0) e ∙ sym (get_or_past ns k 0 w)
+number_or_zero ns k (Some x) b w e = ap (λ (x : BlockNo). x.0) e ∙ w.1
 
 -- the block of a slot: its head, its numbers, and zeros
-pub slot_block : (o h z : List ℕ) (ns : List BlockNo) (d : Kind) (i : ℕ) (p : Handle) → length ns ≤ 64 → o ≡ h ++ padded 496 z → h ≡ slot_head_bytes d (length ns) i p → z ≡ numbers_bytes (plain ns) ++ drop (2 * length ns) (replicate 128 0) → o ≡ slot_head_bytes d (length (plain ns)) i p ++ padded 496 (numbers_bytes (plain ns))
-slot_block o h z ns d i p few eo eh ez =
-    let len : length (numbers_bytes (plain ns)) ≡ 2 * length ns = length_numbers_bytes (plain ns) ∙ ap (λ n. 2 * n) (length_plain ns) in
-    eo ∙ ap (λ x. x ++ padded 496 z) (eh ∙ ap (λ n. slot_head_bytes d n i p) (sym (length_plain ns)))
-    ∙ ap (λ x. slot_head_bytes d (length (plain ns)) i p ++ x) (ap (padded 496) ez ∙ pad_more (numbers_bytes (plain ns)) (2 * length ns) 128 496 len (omega arith) (omega arith))
-
--- one more number taken out of a slot
-pub copied_more : (ns : List ℕ) (before o w : List BlockNo) (k : ℕ) (b : BlockNo) → k < length ns → k < length before → plain o ≡ take k ns ++ drop k (plain before) → b.0 ≡ get_or ns k 0 → w ≡ set o k b → plain w ≡ take (k + 1) ns ++ drop (k + 1) (plain before)
-copied_more ns before o w k b hn hb e eb ew =
-    let room : k < length (plain before) = omega (arith, length_plain before) in
-    ap plain ew ∙ map-set (λ (x : BlockNo). x.0) o k b ∙ ap (λ x. set x k b.0) (e ∙ ap (λ x. take k ns ++ x) (drop_more (plain before) k 0 room))
-    ∙ set_at (take k ns) (get_or (plain before) k 0) (drop (k + 1) (plain before)) b.0 k (length-take-le k ns (omega arith))
-    ∙ sym (append_assoc (take k ns) (b.0 ∷ []) (drop (k + 1) (plain before)))
-    ∙ ap (λ x. (take k ns ++ (x ∷ [])) ++ drop (k + 1) (plain before)) eb
-    ∙ ap (λ x. x ++ drop (k + 1) (plain before)) (sym (take_more ns k 0 hn))
-
-pub copied_all : (ns : List ℕ) (before o : List BlockNo) (k n : ℕ) → n ≡ length ns → n ≤ 64 → k ≡ n → plain o ≡ take k ns ++ drop k (plain before) → Copied ns before o n
-copied_all ns before o k n en few ek e =
-    record {
-      number = en;
-      few = few;
-      copied = e ∙ ap (λ x. x ++ drop k (plain before)) (take_all k ns (omega arith)) ∙ ap (λ i. ns ++ drop i (plain before)) ek;
-    }
+pub slot_block : (k : Kind) (i : ℕ) (p : Handle) (ns : List BlockNo) → length ns ≤ 64 → slot_head_bytes k (length ns) i p ++ padded 496 (padded 128 (numbers_bytes (plain ns))) ≡ encode (slotted (slot_record k i p (plain ns)))
+unfolding encode
+slot_block k i p ns few =
+    ap (λ x. slot_head_bytes k (length ns) i p ++ x) (padded_more (numbers_bytes (plain ns)) 128 496 (omega (arith, length_bytes ns)) (omega arith))
+    ∙ ap (λ n. slot_head_bytes k n i p ++ padded 496 (numbers_bytes (plain ns))) (sym (length_plain ns))

@@ -14,7 +14,5 @@ pub fn encode_entry(name: &[u8], child: &Handle) -> Option<[u8; 32]>
     if !name_fits(name) {
         return None;
     }
-    let mut all = [0; 32];
-    fill(&mut all, &entry_head(name.len() as u8, child), name);
-    Some(all)
+    Some(fill(&entry_head(name.len() as u8, child), name))
 }

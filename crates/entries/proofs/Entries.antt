@@ -1,35 +1,32 @@
--- A test of every byte, one more at a time, and an entry by its parts.
-use Rattle.std.proofs.Common.{◌≡◌, ℕ, ◌+◌, ◌-◌, ◌<◌, ◌≤◌, Bool, true, false, cond, not, ◌&&◌, ◌||◌, eqb, ltb, leb, ◌⊎◌, List, [], ◌∷◌, length, get_or, take, drop, sym, refl, ap, ◌∙◌, subst, inl, inr, ⊎_elim, arith}
-use native.Mathlib.Nat.{sub-zero}
-use Rattle.std.proofs.lemmas.List.{at_drop_more, take_rest, length-drop, length-take-le}
+-- Tests of all bytes, and an entry by its parts.
+use Rattle.std.proofs.Common.{◌≡◌, ℕ, zero, suc, ◌+◌, ◌-◌, ◌≤◌, Bool, true, false, cond, not, ◌&&◌, ◌||◌, eqb, ltb, leb, List, [], ◌∷◌, length, get_or, take, drop, replicate, sym, refl, ap, ◌∙◌, subst, ⊎_elim, arith}
+use Rattle.std.specs.List.{list_any}
+use Rattle.std.specs.Cmp.Lexicographic.{pointwise}
+use Rattle.std.proofs.lemmas.List.{length-drop, length-take-le}
 use Rattle.std.proofs.lemmas.Bool.{eqb-true, eq-eqb, and_parts, and_from, and_right, cases_Bool, leb-true, ltb-true}
-use Rattle.std.proofs.lemmas.Bool.Decides.{nat_tests}
 use Rattle.base.specs.declared.owner.Handle.{Handle}
 use Rattle.layout.specs.Format.{Geometry, no_entry, le16, le32, plain_bytes, entry_fits, entry_of}
 use Rattle.layout.specs.Entries.{State, blank, well_formed, ill_formed, all_zero, child_at, name_at, used_state, entry_state, leads}
 use Rattle.entries.specs.View.{entry_head_fits}
 use Rattle.layout.specs.Laws.{Bytes, EntryRanged}
 
--- F tests every byte by p
-module _ (p : ℕ → Bool) (F : List ℕ → Bool) (step : (x : ℕ) (xs : List ℕ) → F (x ∷ xs) ≡ (p x && F xs)) (xs : List ℕ) (i : ℕ) (r : Bool) (at : i < length xs) (inv : F (drop i xs) ≡ r) where
-  split : (p (get_or xs i 0) && F (drop (i + 1) xs)) ≡ r
-  split = sym (at_drop_more F xs i 0 at ∙ step (get_or xs i 0) (drop (i + 1) xs)) ∙ inv
+-- the two tests of a name are the one of its bytes
+pub plain_is : (xs : List ℕ) → (not (list_any (λ x. eqb x 0) xs) && not (list_any (λ x. eqb x 47) xs)) ≡ plain_bytes xs
+plain_is [] = refl
+plain_is (x ∷ xs) = byte (eqb x 0) (eqb x 47) (list_any (λ y. eqb y 0) xs) (list_any (λ y. eqb y 47) xs) ∙ ap (λ r. not (eqb x 0 || eqb x 47) && r) (plain_is xs)
+  where
+    byte : (a b c d : Bool) → (not (a || c) && not (b || d)) ≡ (not (a || b) && (not c && not d))
+    byte true b c d = refl
+    byte false true true d = refl
+    byte false true false d = refl
+    byte false false c d = refl
 
-  pub good_byte : p (get_or xs i 0) ≡ true → F (drop (i + 1) xs) ≡ r
-  good_byte e = rw e at split
-
-  pub bad_byte : p (get_or xs i 0) ≡ false → false ≡ r
-  bad_byte e = rw e at split
-
-abbrev pub plain_byte : ℕ → Bool
-plain_byte x = not (eqb x 0 || eqb x 47)
-
-pub is_plain_byte : (b : ℕ) → (b ≡ 0 → ⊥) → (b ≡ 47 → ⊥) → plain_byte b ≡ true
-is_plain_byte b p q = grind (arith, nat_tests)
-
-pub no_plain_byte : (b : ℕ) → (b ≡ 0) ⊎ (b ≡ 47) → plain_byte b ≡ false
-no_plain_byte b (inl e) = rw e
-no_plain_byte b (inr e) = rw e
+-- equal to zeros of the same length
+pub zeros_are : (n : ℕ) (xs : List ℕ) → length xs ≡ n → pointwise eqb xs (replicate n 0) ≡ all_zero xs
+zeros_are zero [] e = refl
+zeros_are (suc n) (x ∷ xs) e = ap (λ r. eqb x 0 && r) (zeros_are n xs (omega arith))
+zeros_are zero (x ∷ xs) e = absurd (omega arith)
+zeros_are (suc n) [] e = absurd (omega arith)
 
 grouped : (a b c d e f : Bool) → ((a && (b && (c && (d && e)))) && f) ≡ (a && (b && (c && (d && (e && f)))))
 grouped false b c d e f = refl
@@ -41,10 +38,10 @@ grouped true true true true e f = refl
 -- an entry, from its parts as the code has them
 module _ (g : Geometry) (e : List ℕ) where
   abbrev name_part : List ℕ
-  name_part = take (get_or e 0 0 - 0) (take (length e - 8) (drop 8 e))
+  name_part = take (8 + get_or e 0 0 - 8) (drop 8 e)
 
   name_part_is : name_part ≡ name_at e
-  name_part_is = rw (take_rest, sub-zero)
+  name_part_is = ap (λ n. take n (drop 8 e)) (omega arith)
 
   fits_is : (entry_head_fits g (get_or e 0 0) (child_at e) && plain_bytes (name_at e)) ≡ entry_fits g e
   fits_is =

@@ -1,9 +1,8 @@
 -- The highest identity, one more at a time.
 use Rattle.std.proofs.Common.{◌≡◌, ℕ, ◌+◌, ◌<◌, ◌≤◌, max, ◌⊎◌, List, [], ◌∷◌, length, get_or, drop, sym, refl, ap, ◌∙◌, subst, inl, inr, ⊎_elim, arith}
 use Rattle.std.proofs.lemmas.List.{at_drop_more, at_drop_all}
-use Rattle.base.specs.declared.number.Identity.{Identity}
 use Rattle.layout.specs.Format.{Geometry, Cell, Entry, entry, no_entry, entry_of, Content, blank, cover, slotted, file_body, folder_body, ill_formed}
-use Rattle.layout.specs.Identities.{highest_of, highest_in, entry_told, EntryTells, CellsTell, told, Tells}
+use Rattle.layout.specs.Identities.{highest_in, entry_told, EntryTells, CellsTell, told, Tells}
 use Rattle.std.proofs.lemmas.Bool.{cases_lt}
 
 max_assoc : (a b c : ℕ) → max (max a b) c ≡ max a (max b c)
@@ -11,13 +10,6 @@ max_assoc a b c = omega arith
 
 max_zero : (a : ℕ) → max a 0 ≡ a
 max_zero a = omega arith
-
-module _ (is : List Identity) (k h r : ℕ) where
-  pub of_more : (d : Identity) → k < length is → max h (highest_of (drop k is)) ≡ r → max (max h (get_or is k d).0) (highest_of (drop (k + 1) is)) ≡ r
-  of_more d lt e = max_assoc h (get_or is k d).0 (highest_of (drop (k + 1) is)) ∙ ap (max h) (sym (at_drop_more highest_of is k d lt)) ∙ e
-
-  pub of_all : length is ≤ k → max h (highest_of (drop k is)) ≡ r → h ≡ r
-  of_all le e = sym (max_zero h) ∙ ap (max h) (sym (at_drop_all highest_of is k le)) ∙ e
 
 module _ (g : Geometry) (es : List Cell) (k h r : ℕ) where
   in_step : (e : Cell) (rest : List Cell) → highest_in g (e ∷ rest) ≡ max (entry_told (entry_of g e)) (highest_in g rest)
@@ -35,9 +27,6 @@ module _ (g : Geometry) (es : List Cell) (k h r : ℕ) where
 
   pub in_all : length es ≤ k → max h (highest_in g (drop k es)) ≡ r → h ≡ r
   in_all le e = sym (max_zero h) ∙ ap (max h) (sym (at_drop_all (highest_in g) es k le ∙ in_none)) ∙ e
-
-pub start : (r : ℕ) → max 0 r ≡ r
-start r = omega arith
 
 -- the highest is that of one of two
 max_is : (a b : ℕ) → (max a b ≡ a) ⊎ (max a b ≡ b)

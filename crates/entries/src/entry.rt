@@ -1,6 +1,6 @@
 // The entries of a folder's leaf: 15 cells of 32 bytes.
-ghost use Rattle.std.specs.Prelude.{◌≡◌, ◌<◌, ◌≤◌, [], length, MatchOption, slice_index_or};
-ghost use Rattle.layout.specs.Format.{plain_bytes, good_name, entry_of};
+ghost use Rattle.std.specs.Prelude.{◌≡◌, ◌/◌, ◌<◌, ◌≤◌, [], length, MatchOption, slice_index_or};
+ghost use Rattle.layout.specs.Format.{cells_of, plain_bytes, good_name, entry_of};
 ghost use Rattle.layout.specs.Sizes.{sizes};
 ghost use Rattle.layout.specs.Head.{cells};
 ghost use Rattle.layout.specs.Laws.{EntryRanged};
@@ -13,41 +13,25 @@ use layout::geometry::Geometry;
 use layout::number::{number16, number32};
 
 // A well-formed entry (a directory entry): a name, and the child that it leads to.
-#[derive(Clone, Copy)]
+#[derive(Clone, Copy, PartialEq, Eq, Debug)]
 pub struct Entry<'a> {
     pub child: Handle,
     pub name: &'a [u8],
 }
 
 // A cell once read.
-#[derive(Clone, Copy)]
+#[derive(Clone, Copy, PartialEq, Eq, Debug)]
 pub enum Cell<'a> {
     Blank,
     Used(Entry<'a>),
     IllFormed,
 }
 
-fn is_zero(bytes: &[u8]) -> bool
-    ensures { result ≡ all_zero bytes.now }
-{
-    for b in bytes {
-        if *b != 0 {
-            return false;
-        }
-    }
-    true
-}
-
 // No byte is 0 or '/'.
 fn is_plain(bytes: &[u8]) -> bool
     ensures { result ≡ plain_bytes bytes.now }
 {
-    for b in bytes {
-        if *b == 0 || *b == 47 {
-            return false;
-        }
-    }
-    true
+    !bytes.contains(&0) && !bytes.contains(&b'/')
 }
 
 // Whether a file or folder may have this name: 1 to 24 bytes, none of them 0 or '/'.
@@ -76,18 +60,15 @@ fn entry_head_fits(g: &Geometry, length: u8, child: &Handle) -> bool
         && 1 <= child.identity.0
 }
 
-fn used_cell<'a>(g: &Geometry, bytes: &'a [u8]) -> Cell<'a>
-    requires { length bytes.now ≡ 32 }
+fn used_cell<'a>(g: &Geometry, bytes: &'a [u8; 32]) -> Cell<'a>
     ensures { cell_view result ≡ used_state (sizes g.now) bytes.now }
 {
-    let [n, _, s0, s1, i0, i1, i2, i3, rest @ ..] = bytes else {
-        return Cell::IllFormed;
-    };
+    let [length, _, s0, s1, i0, i1, i2, i3, ..] = bytes;
     let child = read_child([*s0, *s1], [*i0, *i1, *i2, *i3]);
-    if !entry_head_fits(g, *n, &child) {
+    if !entry_head_fits(g, *length, &child) {
         return Cell::IllFormed;
     }
-    let name = &rest[0..*n as usize];
+    let name = &bytes[8..8 + *length as usize];
     if !is_plain(name) {
         return Cell::IllFormed;
     }
@@ -100,22 +81,31 @@ pub fn parse_cell<'a>(g: &Geometry, bytes: &'a [u8]) -> Cell<'a>
     ensures ranged { EntryRanged (sizes g.now) (cell_view result) }
     ensures leads { length bytes.now ≡ 32 → leads (cell_view result) ≡ entry_of (sizes g.now) bytes.now }
 {
-    if bytes.len() != 32 {
+    let Some(cell) = bytes.as_array::<32>() else {
         return Cell::IllFormed;
-    }
-    if is_zero(bytes) {
+    };
+    if *cell == [0; 32] {
         return Cell::Blank;
     }
-    used_cell(g, bytes)
+    used_cell(g, cell)
+}
+
+// The cells of a folder's leaf, of which the payload has 480 bytes and so 15 cells. Of any other length: as many whole
+// cells as there are, without the bytes that are left.
+pub fn cells(payload: &[u8]) -> &[[u8; 32]]
+    ensures whole { result.now ≡ cells_of (length payload.now / 32) payload.now }
+    ensures leaf { length payload.now ≡ 480 → result.now ≡ cells payload.now }
+{
+    let (cells, _) = payload.as_chunks::<32>();
+    cells
 }
 
 // The bytes of a cell of a folder's leaf, which has 480; None from place 15 on.
 pub fn cell_bytes<'a>(payload: &'a [u8], place: usize) -> Option<&'a [u8]>
     ensures { MatchOption result (length payload.now ≡ 480 → 15 ≤ place) (λ c. (length payload.now ≡ 480) × (place < 15) × (length c.now ≡ 32) × (c.now ≡ slice_index_or (cells payload.now) place [])) }
 {
-    if payload.len() != 480 || place >= 15 {
+    if payload.len() != 480 {
         return None;
     }
-    let at = 32 * place;
-    Some(&payload[at..at + 32])
+    Some(cells(payload).get(place)?)
 }

@@ -1,8 +1,9 @@
 -- The blocks of a new card, one by one.
-use Rattle.std.proofs.Common.{◌≡◌, ℕ, zero, suc, ◌+◌, ◌-◌, ◌<◌, ◌≤◌, Bool, true, false, ◌&&◌, ltb, leb, ◌⊎◌, List, [], ◌∷◌, length, get_or, None, Ok, Err, sym, refl, ap, ◌∙◌, subst, inl, inr, arith}
+use Rattle.std.proofs.Common.{◌≡◌, ℕ, zero, suc, ◌+◌, ◌-◌, ◌<◌, ◌≤◌, Bool, true, false, ◌&&◌, ltb, leb, ◌⊎◌, List, [], ◌∷◌, length, get_or, take, None, Ok, Err, sym, refl, ap, ◌∙◌, subst, inl, inr, arith}
 use Rattle.std.proofs.lemmas.Bool.{lt-ltb, lt-leb, le-leb, leb-true, and_parts, cond-true}
 use Rattle.base.specs.declared.refusal.Refusal.{Refusal}
 use Rattle.base.specs.declared.refusal.Refusal.TheVariants.{BadLimits, SmallDevice}
+use Rattle.device.proofs.Effects.{altered_more, refused_at}
 use Rattle.device.specs.Model.{Model, Block, Written}
 use Rattle.device.specs.Answers.{refusal_of, WriteFault, SyncAnswer, SyncFault}
 use Rattle.device.specs.Effect.{first_outside, Altered, accepted, WriteAllFault}
@@ -28,10 +29,10 @@ blanks_at i zero k d l = absurd (omega arith)
 blanks_at i (suc n) zero d l = ap (λ (b : ℕ). store b blank) (omega arith)
 blanks_at i (suc n) (suc k) d l = blanks_at (suc i) n k d (omega arith) ∙ ap (λ (b : ℕ). store b blank) (omega arith)
 
-pub new_length : (g : Geometry) → 2 ≤ g.blocks → length (new_card g) ≡ g.blocks
+new_length : (g : Geometry) → 2 ≤ g.blocks → length (new_card g) ≡ g.blocks
 new_length g l = omega (arith, blanks_length 2 (g.blocks - 2))
 
-pub new_at : (g : Geometry) (i : ℕ) (d : Put) → i < g.blocks → get_or (new_card g) i d ≡ store i (new_block g i)
+new_at : (g : Geometry) (i : ℕ) (d : Put) → i < g.blocks → get_or (new_card g) i d ≡ store i (new_block g i)
 new_at g zero d l = refl
 new_at g (suc zero) d l = refl
 new_at g (suc (suc i)) d l = blanks_at 2 (g.blocks - 2) i d (omega arith) ∙ ap (λ (b : ℕ). store b blank) (omega arith)
@@ -42,34 +43,45 @@ inside_all n [] h = refl
 inside_all n (w ∷ ws) h =
     cond-true (ltb w.block.0 n) _ _ (lt-ltb _ _ (h 0 w (omega arith))) ∙ inside_all n ws (λ i d l. h (suc i) d (omega arith))
 
-pub new_inside : (n : ℕ) (g : Geometry) → 2 ≤ g.blocks → g.blocks ≤ n → first_outside n (new_card g) ≡ None
+new_inside : (n : ℕ) (g : Geometry) → 2 ≤ g.blocks → g.blocks ≤ n → first_outside n (new_card g) ≡ None
 new_inside n g two l = inside_all n (new_card g) (λ i d k.
     let b : i < g.blocks = omega (arith, k, new_length g two) in
     let e = ap (λ (w : Put). w.block.0) (new_at g i d b) in omega (arith, e, b, l))
 
--- ---- one block written
+-- ---- the blocks written one by one
 
-module _ (g : Geometry) (i : ℕ) (d : Put) (l : i < g.blocks) (x : Block) (e : x ≡ encode (new_block g i)) (k n : Model) where
-  abbrev w : Put
-  w = get_or (new_card g) i d
-
-  put_is : record { block = block i; bytes = x } ≡ w
-  put_is = ap (λ (y : Block). record { block = block i; bytes = y }) e ∙ sym (new_at g i d l)
-
-  pub new_written : Written i x k n → Written w.block.0 w.bytes k n
-  new_written h = subst (λ (p : Put). Written p.block.0 p.bytes k n) put_is h
-
-  pub new_refused : (f : Fault) → WriteFault (block i) x k n f → WriteFault w.block w.bytes k n f
-  new_refused f h = subst (λ (p : Put). WriteFault p.block p.bytes k n f) put_is h
-
--- ---- the plan
-
-pub two_blocks : (N S : ℕ) → in_limits N S ≡ true → 2 ≤ N
+two_blocks : (N S : ℕ) → in_limits N S ≡ true → 2 ≤ N
 two_blocks N S e =
     let a = and_parts (leb 2 S) (leb S 256 && (leb (S + 2) N && leb N 4096)) e in
     let b = and_parts (leb S 256) (leb (S + 2) N && leb N 4096) a.1 in
     let c = and_parts (leb (S + 2) N) (leb N 4096) b.1 in
     omega (arith, leb-true (S + 2) N c.0)
+
+module _ (g : CardGeometry) where
+  -- as many puts as blocks, all of them on the device
+  pub as_many : length (new_card (sizes g)) ≡ g.blocks
+  as_many = new_length (sizes g) (two_blocks g.blocks g.slots g.ok)
+
+  pub card_inside : (n : ℕ) → g.blocks ≤ n → first_outside n (new_card (sizes g)) ≡ None
+  card_inside n l = new_inside n (sizes g) (two_blocks g.blocks g.slots g.ok) l
+
+  -- one more
+  module _ (i : ℕ) (x : Block) (l : i < g.blocks) (e : x ≡ encode (new_block (sizes g) i)) (m k n : Model) (h : Altered accepted (take i (new_card (sizes g))) m k) where
+    d : Put
+    d = store i (new_block (sizes g) i)
+
+    put_is : record { block = block i; bytes = x } ≡ get_or (new_card (sizes g)) i d
+    put_is = ap (λ (y : Block). record { block = block i; bytes = y }) e ∙ sym (new_at (sizes g) i d l)
+
+    pub written_more : Written i x k n → Altered accepted (take (i + 1) (new_card (sizes g))) m n
+    written_more w =
+        altered_more (new_card (sizes g)) i d (omega (arith, as_many)) m k n h (subst (λ (p : Put). Written p.block.0 p.bytes k n) put_is w)
+
+    pub write_refused_at : g.blocks ≤ m.count → (f : Fault) → WriteFault (block i) x k n f → WriteAllFault (new_card (sizes g)) m n f
+    write_refused_at room f w =
+        refused_at (new_card (sizes g)) i d (omega (arith, as_many)) m k n h (card_inside m.count room) f (subst (λ (p : Put). WriteFault p.block p.bytes k n f) put_is w)
+
+-- ---- the plan
 
 unchecked : {A : Type 0} (t : Bool) (r : Refusal) (k : Unit {0} → Answer A) → t ≡ false → (check t r >>= k) ≡ Err r
 unfolding ◌>>=◌ check
@@ -94,28 +106,26 @@ module _ (n N S : ℕ) where
 
 -- ---- the whole call
 
-pub told_as : (M T N S : ℕ) (m n : Model) (r : Answer (Unit {0})) → M ≡ N → T ≡ S → Formats M T m r n → Formats N S m r n
-told_as M T N S m n r a b h = subst (λ (y : ℕ). Formats N y m r n) b (subst (λ (x : ℕ). Formats x T m r n) a h)
-
-module _ (g : CardGeometry) (m n : Model) (r : Answer (Unit {0})) (room : g.blocks ≤ m.count) where
-  as_planned : SyncedAfter (new_card (sizes g)) m r n ⊎ BrokenOff (new_card (sizes g)) m r n → Formats g.blocks g.slots m r n
-  as_planned h = subst (λ (z : Answer (List Put)). ByPlan z m r n) (sym (format_plan m.count g.blocks g.slots g.ok room)) h
+module _ (g : CardGeometry) (N S : ℕ) (blocks : g.blocks ≡ N) (slots : g.slots ≡ S) (m n : Model) (r : Answer (Unit {0})) (room : N ≤ m.count) where
+  as_planned : SyncedAfter (new_card (sizes g)) m r n ⊎ BrokenOff (new_card (sizes g)) m r n → Formats N S m r n
+  as_planned h =
+      subst (λ (y : ℕ). Formats N y m r n) slots (subst (λ (x : ℕ). Formats x g.slots m r n) blocks (subst (λ (z : Answer (List Put)). ByPlan z m r n) (sym (format_plan m.count g.blocks g.slots g.ok (omega arith))) h))
 
   -- power gone while the blocks were written
-  pub write_refused : (e : Refusal) (f : Fault) → r ≡ Err e → e ≡ refusal_of f → WriteAllFault (new_card (sizes g)) m n f → Formats g.blocks g.slots m r n
+  pub write_refused : (e : Refusal) (f : Fault) → r ≡ Err e → e ≡ refusal_of f → WriteAllFault (new_card (sizes g)) m n f → Formats N S m r n
   write_refused e (Gone b) p q h = as_planned (inr (record { at = b; named = h.0; answer = p ∙ ap Err q; altered = h.2 }))
   write_refused e (NoSuchBlock b) p q h =
-      let none = new_inside m.count (sizes g) (two_blocks g.blocks g.slots g.ok) room in
+      let none = card_inside g m.count (omega arith) in
       let some = h.0 in
       let z : ◌≡◌ {A = ℕ} 0 1 = cc in absurd (omega arith)
 
   -- power gone at the sync
-  pub sync_refused : (k : Model) (e : Refusal) (f : Fault) → Altered accepted (new_card (sizes g)) m k → r ≡ Err e → e ≡ refusal_of f → SyncFault k n f → Formats g.blocks g.slots m r n
+  pub sync_refused : (k : Model) (e : Refusal) (f : Fault) → Altered accepted (new_card (sizes g)) m k → r ≡ Err e → e ≡ refusal_of f → SyncFault k n f → Formats N S m r n
   sync_refused k e (Gone b) a p q h = as_planned (inl (record { written = k; altered = a; answer = inr (b, h.0, p ∙ ap Err q, h.1) }))
   sync_refused k e (NoSuchBlock b) a p q h = absurd h
 
   -- the device's answer to the sync
-  pub sync_answered : (k : Model) (a : Synced) → Altered accepted (new_card (sizes g)) m k → r ≡ synced a → SyncAnswer k n a → Formats g.blocks g.slots m r n
+  pub sync_answered : (k : Model) (a : Synced) → Altered accepted (new_card (sizes g)) m k → r ≡ synced a → SyncAnswer k n a → Formats N S m r n
   sync_answered k a alt p h = as_planned (inl (record { written = k; altered = alt; answer = inl (a, p, h) }))
 
 pub refused_early : (N S : ℕ) (m : Model) (e : Refusal) → format m.count N S ≡ Err e → Formats N S m (Err e) m

@@ -24,15 +24,11 @@ const ROOT: Handle = Handle {
 fn new_block(g: &Geometry, at: u16) -> [u8; 512]
     ensures { result ≡ encode (new_block (sizes g.now) at) }
 {
-    let mut out = [0u8; 512];
-    if at == 0 {
-        encode_cover(&mut out, g);
-    } else if at == 1 {
-        let _ = encode_slot(&mut out, Kind::Folder, Identity(1), &ROOT, &[]);
-    } else {
-        encode_blank(&mut out);
+    match at {
+        0 => encode_cover(g),
+        1 => encode_slot(Kind::Folder, Identity(1), &ROOT, &[]).unwrap(),
+        _ => encode_blank(),
     }
-    out
 }
 
 // Writes the blocks of a new card, in the order of their numbers.

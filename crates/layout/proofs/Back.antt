@@ -10,9 +10,9 @@ use Rattle.base.specs.declared.owner.Handle.{Handle}
 use Rattle.base.specs.declared.owner.Back.{Back}
 use Rattle.layout.specs.Format.{Geometry, Slot, Name, Cell, Content, blank, cover, slotted, file_body, folder_body, ill_formed, entry, in_limits, region, Region, cover_region, slot_region, body_region, by_kind, parse, encode, cell, slot_of, slot_byte, body_bytes, cover_of, file_body_of, folder_body_of, all_bodies, body_number, numbers_of, cells_of, numbers_bytes, cells_bytes, padded, entry_of, good_name, plain_bytes}
 use Rattle.layout.specs.Head.{cells, slot_head_at, body_head_at, slot_by, file_body_by, folder_body_by, slot_head_fits, body_head_fits}
-use Rattle.layout.specs.declared.block.SlotHead.{SlotHead}
-use Rattle.layout.specs.declared.block.BodyHead.{BodyHead}
-use Rattle.layout.proofs.Parsing.{slot_parts, folder_parts}
+use Rattle.layout.specs.declared.block.parsing.SlotHead.{SlotHead}
+use Rattle.layout.specs.declared.block.parsing.BodyHead.{BodyHead}
+use Rattle.layout.proofs.Parsing.{slot_parts, body_parts}
 use Rattle.layout.specs.Laws.{SlotFits, BackFits, ChildFits, whole_cells, Writable, ReadAs, ReadAsFolder, ReadAsEntry, ChangedAt}
 
 back16 : (n : ℕ) → n < 65536 → n % 256 + 256 * (n / 256 % 256) ≡ n
@@ -135,7 +135,7 @@ module _ (g : Geometry) (lim : in_limits g.blocks g.slots ≡ true) where
     folder_back es len whole =
         let zeros : List ℕ = replicate (496 - length (cells_bytes es)) 0 in
         let head = head_good 480 in
-        sym (folder_parts g (body_bytes 5 k 480 (cells_bytes es)))
+        sym (body_parts g (body_bytes 5 k 480 (cells_bytes es)) Folder)
         ∙ ap (λ h. folder_body_by g h (cells_bytes es ++ zeros)) (head_back 5 480 (cells_bytes es) (omega arith)) ∙ rw head (ap (folder_body k) (cells_in es zeros len whole))
 
   -- every content

@@ -1,6 +1,7 @@
 -- The cells of a folder's leaf.
 use Rattle.std.proofs.Common.{◌≡◌, ℕ, zero, suc, ◌+◌, ◌-◌, ◌*◌, ◌<◌, ◌≤◌, List, [], ◌∷◌, length, get_or, take, drop, sym, refl, ap, ◌∙◌, arith}
 use Rattle.std.proofs.lemmas.List.{drop-drop, drop-take, take-take, length-drop, length-take-le}
+use Rattle.std.specs.Simd.{first_chunks}
 use Rattle.layout.specs.Format.{cells_of}
 use Rattle.layout.specs.Head.{cells}
 
@@ -38,3 +39,8 @@ cell_part k z len lt =
     let n : 32 * k + 32 - 32 * k ≡ 32 = omega arith in
     ap (λ n. take n (drop (32 * k) z)) n in
     (ap length same ∙ length-take-le 32 (drop (32 * k) z) room, same ∙ sym (cell_at k z lt))
+
+-- whole chunks of 32 bytes are cells
+pub cells_are : (n : ℕ) (z : List ℕ) → first_chunks 32 n z ≡ cells_of n z
+cells_are zero z = refl
+cells_are (suc n) z = ap (λ es. take 32 z ∷ es) (cells_are n (drop 32 z))

@@ -4,8 +4,8 @@ use Rattle.base.specs.declared.owner.Kind.{Kind}
 use Rattle.base.specs.declared.owner.Kind.TheVariants.{File, Folder}
 use Rattle.device.specs.Model.{Block}
 use Rattle.layout.specs.Format.{Geometry, Content, slotted, file_body, folder_body, ill_formed, file_body_of, folder_body_of, handle, back, le16, le32, Cell, numbers_of, cells_of, all_bodies, leaf_limit}
-use Rattle.layout.specs.declared.block.SlotHead.{SlotHead}
-use Rattle.layout.specs.declared.block.BodyHead.{BodyHead}
+use Rattle.layout.specs.declared.block.parsing.SlotHead.{SlotHead}
+use Rattle.layout.specs.declared.block.parsing.BodyHead.{BodyHead}
 
 -- a head from the bytes of each field
 abbrev pub slot_head : List ℕ → List ℕ → List ℕ → List ℕ → SlotHead
@@ -47,6 +47,10 @@ file_body_by g h rest = cond (body_head_fits g h && nat_le h.used 496) (file_bod
 
 abbrev pub folder_body_by : Geometry → BodyHead → List ℕ → Content
 folder_body_by g h rest = cond (body_head_fits g h && h.used == 480) (folder_body h.back (cells rest)) ill_formed
+
+abbrev pub body_by : Geometry → Kind → BodyHead → List ℕ → Content
+body_by g File h rest = file_body_by g h rest
+body_by g Folder h rest = folder_body_by g h rest
 
 abbrev pub body_of : Geometry → Kind → Block → Content
 body_of g File z = file_body_of g z

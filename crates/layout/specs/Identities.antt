@@ -1,6 +1,5 @@
 -- The identities that a block tells, and the highest of them.
 use Rattle.std.specs.Prelude.{◌≡◌, ℕ, max, ◌⊎◌, List, [], ◌∷◌}
-use Rattle.base.specs.declared.number.Identity.{Identity}
 use Rattle.layout.specs.Format.{Geometry, Cell, Entry, entry, no_entry, entry_of, Content, blank, cover, slotted, file_body, folder_body, ill_formed}
 
 -- the identity of the child that an entry leads to
@@ -12,11 +11,6 @@ entry_told no_entry = 0
 unfoldable pub highest_in : Geometry → List Cell → ℕ
 highest_in g [] = 0
 highest_in g (e ∷ es) = max (entry_told (entry_of g e)) (highest_in g es)
-
--- the highest of some identities
-abbrev pub highest_of : List Identity → ℕ
-highest_of [] = 0
-highest_of (i ∷ is) = max i.0 (highest_of is)
 
 -- the highest identity that a block tells; 0 where it tells none
 abbrev pub told : Geometry → Content → ℕ

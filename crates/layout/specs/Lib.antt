@@ -1,8 +1,10 @@
 pub mod Format
 pub mod Sizes
+pub mod Parts
 pub mod Head
 pub mod View
 pub mod Entries
 pub mod Identities
 pub mod Owners
+pub mod Lines
 pub mod Laws

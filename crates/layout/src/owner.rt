@@ -1,26 +1,22 @@
 // One check for everything that names an owner. Each sort of owned thing has its own back line.
 ghost use Rattle.std.specs.Prelude.{◌≡◌, Decides};
-ghost use Rattle.layout.specs.Owners.{body_line, slot_line};
+ghost use Rattle.layout.specs.Owners.{body_line, folder_body_line, slot_line};
+ghost use Rattle.layout.specs.Lines.{backs_decided, handles_decided};
 
-use crate::block::{Body, Slot};
+use crate::block::{Body, FolderBody, Slot};
 use base::owner::{Back, Handle};
 
-// What an owned thing says of its owner (a back pointer).
-pub trait BackLine {
-    fn same(&self, other: &Self) -> bool
-        ensures { Decides result (self.now ≡ other.now) };
+// What an owned thing says of its owner (a back pointer). Equal back lines are the same.
+pub trait BackLine: PartialEq {
+    ghost same: { (x y : Self) → Decides (Self.eq x y) (x ≡ y) };
 }
 
 impl BackLine for Back {
-    fn same(&self, other: &Back) -> bool {
-        *self == *other
-    }
+    ghost same = { backs_decided };
 }
 
 impl BackLine for Handle {
-    fn same(&self, other: &Handle) -> bool {
-        self.slot == other.slot && self.identity == other.identity
-    }
+    ghost same = { handles_decided };
 }
 
 // Something that names its owner.
@@ -33,11 +29,22 @@ pub trait Owned {
         ensures { result ≡ owner self.now };
 }
 
-// A body names its owner's slot and identity, and which leaf it is.
+// A file's body names its owner's slot and identity, and which leaf it is.
 impl Owned for Body<'_> {
     type Line = Back;
 
     ghost owner = { body_line };
+
+    fn line(&self) -> Back {
+        self.back
+    }
+}
+
+// So does a folder's.
+impl Owned for FolderBody<'_> {
+    type Line = Back;
+
+    ghost owner = { folder_body_line };
 
     fn line(&self) -> Back {
         self.back
@@ -59,5 +66,5 @@ impl Owned for Slot<'_> {
 pub fn names<O: Owned>(thing: &O, line: &O::Line) -> bool
     ensures { Decides result (O.Owned.owner thing.now ≡ line.now) }
 {
-    thing.line().same(line)
+    thing.line() == *line
 }

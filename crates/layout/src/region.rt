@@ -7,7 +7,7 @@ use crate::geometry::Geometry;
 use base::number::{BlockNo, SlotNo};
 
 // Where a block lies, which says which kinds may stand there.
-#[derive(Clone, Copy)]
+#[derive(Clone, Copy, PartialEq, Eq, Debug)]
 pub enum Region {
     Cover,
     Slots,
@@ -19,7 +19,7 @@ impl Geometry {
     pub fn region(&self, at: BlockNo) -> Region
         ensures { region_view result ≡ region (sizes self.now) at.0 }
     {
-        if at.0 == 0 {
+        if at == BlockNo(0) {
             Region::Cover
         } else if at.0 <= self.slots {
             Region::Slots

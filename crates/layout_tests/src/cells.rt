@@ -102,8 +102,9 @@ fn told(rt: HostRuntime) -> Result<(), Fail> {
     let Some(last) = encode_entry(b"bass", &child) else {
         return Err(Fail::new("name"));
     };
-    let mut block = [7; 512];
-    assert!(rt; encode_folder_change(&mut block, &back, &[0; 480], 14, &last));
+    let Some(block) = encode_folder_change(&back, &[0; 480], 14, &last) else {
+        return Err(Fail::new("folder"));
+    };
     assert_eq!(rt; highest_told(&g, BlockNo(4), &block).0, 70000);
     assert_eq!(rt; highest_told(&g, BlockNo(3), &block).0, 0);
     assert!(rt; cell_bytes(&block[16..496], 14) == Some(&block[464..496]));

@@ -32,52 +32,39 @@ fn small_blocks(rt: HostRuntime) -> Result<(), Fail> {
     let Some(g) = Geometry::new(8, 3) else {
         return Err(Fail::new("limits"));
     };
-    let mut block = [7; 512];
-    encode_cover(&mut block, &g);
-    assert!(rt; &block[0..8] == [1, 1, 8, 0, 3, 0, 0, 0].as_slice());
-    assert_eq!(rt; block[511], 0);
-    encode_blank(&mut block);
-    assert_eq!(rt; block[0], 0);
-    assert_eq!(rt; block[511], 0);
+    let cover = encode_cover(&g);
+    assert!(rt; &cover[0..8] == [1, 1, 8, 0, 3, 0, 0, 0].as_slice());
+    assert_eq!(rt; cover[511], 0);
+    let blank = encode_blank();
+    assert_eq!(rt; blank[0], 0);
+    assert_eq!(rt; blank[511], 0);
     Ok(())
 }
 
 #[test]
-fn slot_and_body(rt: HostRuntime) {
-    let mut block = [7; 512];
+fn slot_and_body(rt: HostRuntime) -> Result<(), Fail> {
+    let root = handle(0, 1);
+    let Some(slot) = encode_slot(Kind::File, Identity(2), &root, &[BlockNo(5)]) else {
+        return Err(Fail::new("slot"));
+    };
     assert!(rt;
-        encode_slot(
-            &mut block,
-            Kind::File,
-            Identity(2),
-            &handle(0, 1),
-            &[BlockNo(5)],
-        )
+        &slot[0..20] == [2, 0, 1, 0, 2, 0, 0, 0, 1, 0, 0, 0, 0, 0, 0, 0, 5, 0, 0, 0].as_slice()
     );
+    assert_eq!(rt; slot[511], 0);
+    assert!(rt; encode_slot(Kind::File, Identity(2), &root, &[BlockNo(5); 65]).is_none());
+    let Some(body) = encode_file_body(&back(0), b"ABC") else {
+        return Err(Fail::new("body"));
+    };
     assert!(rt;
-        &block[0..20] == [2, 0, 1, 0, 2, 0, 0, 0, 1, 0, 0, 0, 0, 0, 0, 0, 5, 0, 0, 0].as_slice()
-    );
-    assert_eq!(rt; block[511], 0);
-    assert!(rt;
-        !encode_slot(
-            &mut block,
-            Kind::File,
-            Identity(2),
-            &handle(0, 1),
-            &[BlockNo(5); 65],
-        )
-    );
-    assert_eq!(rt; block[0], 2);
-    assert!(rt; encode_file_body(&mut block, &back(0), b"ABC"));
-    assert!(rt;
-        &block[0..20]
+        &body[0..20]
             == [
                 4, 0, 1, 0, 2, 0, 0, 0, 0, 0, 3, 0, 0, 0, 0, 0, 65, 66, 67, 0,
             ]
             .as_slice()
     );
-    assert!(rt; encode_file_body(&mut block, &back(0), &[1; 496]));
-    assert!(rt; !encode_file_body(&mut block, &back(0), &[1; 497]));
+    assert!(rt; encode_file_body(&back(0), &[1; 496]).is_some());
+    assert!(rt; encode_file_body(&back(0), &[1; 497]).is_none());
+    Ok(())
 }
 
 #[test]
@@ -87,16 +74,19 @@ fn folder(rt: HostRuntime) -> Result<(), Fail> {
     };
     assert!(rt; &cell[0..13] == [4, 0, 1, 0, 2, 1, 0, 0, 97, 108, 116, 111, 0].as_slice());
     assert!(rt; encode_entry(b"a/b", &handle(1, 2)).is_none());
-    let mut block = [7; 512];
-    assert!(rt; encode_folder_body(&mut block, &back(1), &[9; 480]));
-    assert!(rt; &block[0..17] == [5, 0, 1, 0, 2, 0, 0, 0, 1, 0, 224, 1, 0, 0, 0, 0, 9].as_slice());
-    assert!(rt; &block[495..512] == [9, 0, 0, 0, 0, 0, 0, 0, 0, 0, 0, 0, 0, 0, 0, 0, 0].as_slice());
-    assert!(rt; encode_folder_change(&mut block, &back(1), &[8; 480], 2, &cell));
-    assert_eq!(rt; block[79], 8);
-    assert!(rt; &block[80..112] == cell.as_slice());
-    assert_eq!(rt; block[112], 8);
-    assert!(rt; !encode_folder_change(&mut block, &back(1), &[8; 480], 15, &cell));
-    assert!(rt; !encode_folder_change(&mut block, &back(1), &[8; 479], 2, &cell));
+    let Some(body) = encode_folder_body(&back(1), &[9; 480]) else {
+        return Err(Fail::new("body"));
+    };
+    assert!(rt; &body[0..17] == [5, 0, 1, 0, 2, 0, 0, 0, 1, 0, 224, 1, 0, 0, 0, 0, 9].as_slice());
+    assert!(rt; &body[495..512] == [9, 0, 0, 0, 0, 0, 0, 0, 0, 0, 0, 0, 0, 0, 0, 0, 0].as_slice());
+    let Some(changed) = encode_folder_change(&back(1), &[8; 480], 2, &cell) else {
+        return Err(Fail::new("change"));
+    };
+    assert_eq!(rt; changed[79], 8);
+    assert!(rt; &changed[80..112] == cell.as_slice());
+    assert_eq!(rt; changed[112], 8);
+    assert!(rt; encode_folder_change(&back(1), &[8; 480], 15, &cell).is_none());
+    assert!(rt; encode_folder_change(&back(1), &[8; 479], 2, &cell).is_none());
     Ok(())
 }
 
@@ -105,8 +95,9 @@ fn owner(rt: HostRuntime) -> Result<(), Fail> {
     let Some(g) = Geometry::new(8, 3) else {
         return Err(Fail::new("limits"));
     };
-    let mut block = [7; 512];
-    assert!(rt; encode_file_body(&mut block, &back(3), b"ABC"));
+    let Some(block) = encode_file_body(&back(3), b"ABC") else {
+        return Err(Fail::new("body"));
+    };
     match parse(&g, BlockNo(4), &block) {
         Block::FileBody(b) => {
             assert!(rt; names(&b, &back(3)));

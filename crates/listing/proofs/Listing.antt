@@ -1,7 +1,6 @@
 -- A list that is filled by place, one more line at a time.
 use Rattle.std.proofs.Common.{◌≡◌, ℕ, ◌+◌, ◌-◌, ◌^◌, ◌<◌, ◌≤◌, List, [], ◌∷◌, ◌++◌, length, get_or, take, drop, set, replicate, sym, refl, ap, ◌∙◌, ⊎_elim, append_assoc, arith}
-use borrow.Rule.Slice.PartMut.{post_of}
-use Rattle.std.proofs.lemmas.List.{append-nil, take_all, take-append-le, drop_all, drop_more, drop-replicate, set_at, set_past, length_push, length-take, length-replicate, replicate_more}
+use Rattle.std.proofs.lemmas.List.{append-nil, take_all, take-append-le, drop_all, drop_more, set_at, set_past, length_push, length-take, length-replicate, replicate_more}
 use Rattle.std.proofs.lemmas.Bool.{cases_lt}
 use Rattle.listing.specs.Lines.{listed, Sofar, counted}
 
@@ -49,11 +48,3 @@ fill_more before lines after k x h e ea =
     ea ∙ ap (λ z. set z k x) (e ∙ ap (λ z. replicate k x ++ z) (drop_more before k x h))
     ∙ set_at (replicate k x) (get_or before k x) (drop (k + 1) before) x k (length-replicate k x)
     ∙ sym (append_assoc (replicate k x) (x ∷ []) (drop (k + 1) before)) ∙ ap (λ z. z ++ drop (k + 1) before) (replicate_more k x)
-
-pub fill_all : {L : Type 0} (before lines : List L) (k : ℕ) (x : L) → length before ≡ k → lines ≡ replicate k x ++ drop k before → lines ≡ replicate (length before) x
-fill_all before lines k x len e =
-    e ∙ ap (λ z. replicate k x ++ z) (drop_all k before (omega arith)) ∙ append-nil (replicate k x) ∙ ap (λ n. replicate n x) (sym len)
-
--- a name written over zeros
-pub named : (n : ℕ) (h : List ℕ) → h ++ post_of 0 (length h - 0) (replicate n 0) ≡ h ++ replicate (n - length h) 0
-named n h = let m : n - (length h - 0) ≡ n - length h = omega arith in rw drop-replicate (ap (λ m. h ++ replicate m 0) m)

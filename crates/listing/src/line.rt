@@ -1,12 +1,14 @@
 // The lines of the two lists.
-ghost use Rattle.std.specs.Prelude.{◌≡◌, ◌<◌, ◌≤◌, length, MatchOption};
+ghost use Rattle.std.specs.Prelude.{◌≡◌, ℕ, ◌<◌, ◌≤◌, List, length, take, MatchOption};
+ghost use Rattle.base.specs.declared.owner.Handle.{Handle};
 ghost use Rattle.listing.specs.Lines.{entry_line, name_field};
 
 use base::number::{Identity, LeafNo, SlotNo};
 use base::owner::Handle;
 
 // An entry of a folder: the first `length` bytes of `name`, and the child that it leads to.
-#[derive(Clone, Copy)]
+// Kept: lines lie in the caller's slice, with no heap, so the name is an array with its length.
+#[derive(Clone, Copy, PartialEq, Eq, Debug)]
 pub struct EntryLine {
     pub name: [u8; 24],
     pub length: u8,
@@ -15,7 +17,7 @@ pub struct EntryLine {
 }
 
 // A leaf that is not good.
-#[derive(Clone, Copy)]
+#[derive(Clone, Copy, PartialEq, Eq, Debug)]
 pub struct DamageLine {
     pub slot: SlotNo,
     pub leaf: LeafNo,
@@ -57,5 +59,13 @@ impl EntryLine {
             slot: child.slot,
             identity: child.identity,
         })
+    }
+
+    // The name; all 24 bytes where `length` says more.
+    pub fn name(&self) -> &[u8]
+        ensures bytes { result.now ≡ take self.now.length self.now.name }
+        ensures given { (name : List ℕ) (child : Handle) → self.now ≡ entry_line name child → result.now ≡ name }
+    {
+        &self.name[0..(self.length as usize).min(24)]
     }
 }

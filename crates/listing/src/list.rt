@@ -18,8 +18,8 @@ pub fn put_line<L: Copy>(lines: &mut [L], count: usize, line: L) -> usize
 pub fn fill_lines<L: Copy>(lines: &mut [L], line: L)
     ensures { lines.new ≡ replicate (length lines.old) line }
 {
-    for k in 0..lines.len() {
-        lines[k] = line;
+    for place in lines.iter_mut() {
+        *place = line;
     }
 }
 
@@ -54,9 +54,6 @@ impl<'a, L: Copy> Lines<'a, L> {
         ensures listed { (before items : List L) → length items < 2 ^ 64 - 1 → Sofar before items self.old.count self.old.lines.now → Sofar before (items ++ line ∷ []) self.new.count self.new.lines.now }
         ensures same { self.new.lines.ghost_name ≡ self.old.lines.ghost_name }
     {
-        if self.count < self.lines.len() {
-            self.lines[self.count] = line;
-        }
-        self.count = self.count.saturating_add(1);
+        self.count = put_line(self.lines, self.count, line);
     }
 }

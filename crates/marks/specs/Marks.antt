@@ -73,6 +73,10 @@ with_gained ms (Some b) c = with_body ms b (Some c)
 
 -- ---- what is free, by the marks
 
+-- there is no mark
+abbrev pub is_unmarked : {A : Type 0} → Option A → Bool
+is_unmarked x = not (is_some x)
+
 -- place i has no mark
 abbrev pub unmarked : {A : Type 0} → List (Option A) → ℕ → Bool
 unmarked xs i = not (is_some (slice_index_or xs i None))

@@ -8,10 +8,10 @@ use crate::places::{count_free, mark_at, next_free, set_mark};
 use base::number::{BlockNo, Identity, SlotNo};
 use base::owner::{Back, Handle};
 use layout::geometry::Geometry;
-use layout::owner::{BackLine, Owned, names};
+use layout::owner::{Owned, names};
 
 // What is kept of a reached slot.
-#[derive(Clone, Copy)]
+#[derive(Clone, Copy, PartialEq, Eq, Debug)]
 pub struct SlotMark {
     pub identity: Identity,
     pub parent: Handle,
@@ -29,25 +29,24 @@ impl Owned for SlotMark {
 }
 
 // For each slot what it is, if it is reached; for each block whose leaf it is, if it is held. The rest is free.
-#[derive(Clone, Copy)]
+#[derive(Clone, Copy, PartialEq, Eq, Debug)]
 pub struct Marks {
     pub slots: [Option<SlotMark>; 256],
     pub bodies: [Option<Back>; 4096],
 }
 
-fn whole_arrays(slots: &[Option<SlotMark>; 256], bodies: &[Option<Back>; 4096]) -> u8
+fn whole_arrays(slots: &[Option<SlotMark>; 256], bodies: &[Option<Back>; 4096])
     ensures slots { length slots.now ≡ 256 }
     ensures bodies { length bodies.now ≡ 4096 }
-{
-    0
-}
+{}
 
 impl Marks {
     // Computes nothing: says that there is a place for every slot and every block.
-    pub fn whole(&self) -> u8
+    // Kept: a ghost field cannot say it, since definitions make marks of lists of any length.
+    pub fn whole(&self)
         ensures { Whole self.now }
     {
-        whole_arrays(&self.slots, &self.bodies)
+        whole_arrays(&self.slots, &self.bodies);
     }
 
     // Nothing is reached or held.
@@ -71,42 +70,35 @@ impl Marks {
     pub fn is_leaf(&self, at: BlockNo, back: &Back) -> bool
         ensures { result ≡ is_leaf self.now at.0 back.now }
     {
-        match mark_at(&self.bodies, at.0) {
-            Some(mark) => back.same(&mark),
-            None => false,
-        }
+        mark_at(&self.bodies, at.0) == Some(*back)
     }
 
     // Whether an entry of the folder that leads to the child is sound, by the mark of the child's slot.
     pub fn is_child(&self, folder: &Handle, child: &Handle) -> bool
         ensures { result ≡ is_child self.now folder.now child.now }
     {
-        match mark_at(&self.slots, child.slot.0) {
-            Some(mark) => mark.identity.0 == child.identity.0 && names(&mark, folder),
-            None => false,
-        }
+        let Some(mark) = mark_at(&self.slots, child.slot.0) else {
+            return false;
+        };
+        mark.identity == child.identity && names(&mark, folder)
     }
 
     // The first free slot at or after the cursor, going round.
     pub fn free_slot(&self, g: &Geometry, at: u16) -> Option<SlotNo>
         ensures { option_map (λ s. s.0) result ≡ next_free_slot (sizes g.now) self.now at }
     {
-        match next_free(&self.slots, 0, g.slots, at) {
-            Some(slot) => Some(SlotNo(slot)),
-            None => None,
-        }
+        next_free(&self.slots, 0, g.slots, at).map(SlotNo)
     }
 
     // The first free body at or after the cursor, going round.
     pub fn free_body(&self, g: &Geometry, at: u16) -> Option<BlockNo>
         ensures { option_map (λ b. b.0) result ≡ next_free_body (sizes g.now) self.now at }
     {
-        match next_free(&self.bodies, g.slots + 1, g.blocks, at) {
-            Some(block) => Some(BlockNo(block)),
-            None => None,
-        }
+        next_free(&self.bodies, g.slots + 1, g.blocks, at).map(BlockNo)
     }
 
+    // Kept: slots and bodies have methods of their own, a line each over one generic function in `places`, so that a slot's
+    // number and a block's never stand in for one another.
     // How many slots are free.
     pub fn slots_left(&self, g: &Geometry) -> u16
         ensures { result ≡ slots_left (sizes g.now) self.now }

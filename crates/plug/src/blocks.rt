@@ -7,10 +7,5 @@ pub fn filling(block: &[u8; 512]) -> Option<u8>
     ensures { MatchOption result (Mixed block.now) (Filled block.now) }
 {
     let first = block[0];
-    for byte in block {
-        if *byte != first {
-            return None;
-        }
-    }
-    Some(first)
+    block.iter().all(|byte| *byte == first).then_some(first)
 }

@@ -4,7 +4,6 @@ use base::number::BlockNo;
 use buffered::buffered::Buffered;
 use device::Device;
 use device::failing::Failing;
-use device::fault::{Fault, Synced};
 use device::plain::Plain;
 
 const BLOCKS: usize = 12;
@@ -17,14 +16,6 @@ const SECOND: [u16; 10] = [3, 4, 5, 6, 7, 8, 9, 10, 11, 0];
 // Writes after which the power goes.
 const PASSES: u32 = 12;
 
-fn outcome(answer: &Result<(), Fault>) -> &'static str {
-    match answer {
-        Ok(()) => "accepted",
-        Err(Fault::PowerGone(_)) => "power gone",
-        Err(Fault::NoSuchBlock(_)) => "no such block",
-    }
-}
-
 // Fills each block with its number plus `base`, and says what was answered.
 fn write_each<D: Device>(
     rt: &HostRuntime,
@@ -34,20 +25,20 @@ fn write_each<D: Device>(
 ) -> anyhow::Result<()> {
     for n in numbers {
         let byte = base.wrapping_add((*n & 0xff) as u8);
-        let answer = card.write(BlockNo(*n), &[byte; 512]);
-        let told = outcome(&answer);
-        println!(rt; "write block {n}, filled with {byte}: {told}")?;
+        print!(rt; "write block {n}, filled with {byte}: ")?;
+        match card.write(BlockNo(*n), &[byte; 512]) {
+            Ok(()) => println!(rt; "accepted")?,
+            Err(fault) => println!(rt; "{fault}")?,
+        }
     }
     Ok(())
 }
 
 fn sync_and_say<D: Device>(rt: &HostRuntime, card: &mut D) -> anyhow::Result<()> {
-    let told = match card.sync() {
-        Ok(Synced::Settled) => "settled",
-        Ok(Synced::Unsure) => "unsure",
-        Err(_) => "power gone",
-    };
-    println!(rt; "sync: {told}")?;
+    match card.sync() {
+        Ok(answer) => println!(rt; "sync: {answer}")?,
+        Err(fault) => println!(rt; "sync: {fault}")?,
+    }
     Ok(())
 }
 

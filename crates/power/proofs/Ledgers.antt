@@ -1,25 +1,15 @@
 -- What the calls of a ledger do to its model.
-use Rattle.std.proofs.Common.{◌≡◌, ℕ, ◌-◌, ◌%◌, ◌<◌, ◌≤◌, min, Bool, true, false, cond, not, ltb, ◌⊎◌, List, [], ◌∷◌, ◌++◌, length, get_or, take, set, replicate, None, Ok, Err, Option, sym, refl, ap, ◌∙◌, inl, inr, ⊎_elim, zero-le, mod-lt, arith, length-set}
+use Rattle.std.proofs.Common.{◌≡◌, ℕ, ◌-◌, ◌%◌, ◌<◌, ◌≤◌, min, Bool, true, false, cond, not, ltb, ◌⊎◌, List, [], ◌∷◌, ◌++◌, length, get_or, take, set, replicate, None, Option, sym, refl, ap, ◌∙◌, inl, inr, ⊎_elim, zero-le, mod-lt, arith, length-set}
 use mathlib.Core.Path.{fun_ext}
 use Rattle.std.proofs.lemmas.List.{get_or_past, get_or-replicate, length-replicate, take_all}
-use Rattle.std.proofs.lemmas.Bool.{cases_lt, lt-ltb, cond-true, cond-false}
+use Rattle.std.proofs.lemmas.Bool.{cases_lt}
 use Rattle.base.specs.declared.number.BlockNo.{BlockNo}
 use Rattle.device.specs.Model.{Model, Block, In, Stands, Is, Kept, Written, Torn, Settled, Cut, put}
 use Rattle.device.specs.declared.put.Put.{Put}
-use Rattle.device.specs.declared.fault.Fault.TheVariants.{PowerGone}
-use Rattle.device.specs.declared.fault.Synced.TheVariants.{Settled as SettledAnswer, Unsure}
-use Rattle.power.specs.declared.ledger.LastWrite.{LastWrite}
-use Rattle.power.specs.declared.ledger.LastWrite.TheVariants.{Lost as LeavesNone, MayStand}
+use Rattle.power.specs.declared.ledger.LastWrite.TheVariants.{Lost as LeavesNone}
 use Rattle.power.specs.View.{View, ledger, blocks, contents, shows, shows_among}
-use Rattle.power.specs.Calls.{with_book, with_left, turned_off, replay, settle, noted, leave, fewer, spent, write_answer, write_after, sync_answer, sync_after, pick, chosen, LandedAll, CutLeft, Fresh}
+use Rattle.power.specs.Calls.{with_book, with_left, turned_off, replay, settle, noted, pick, chosen, LandedAll, CutLeft, Fresh}
 use Rattle.power.proofs.Logs.{shows_push, contents_push, shows_landed, only_landed, length_replay, shows_replay, getD_in}
-
--- ---- views
-
--- after the log was emptied, with its items and its capacity as they then are
-pub cleared : (v n : View) (items : List Put) (cap : ℕ) → items ≡ [] → cap ≡ n.room → n ≡ with_book v n.settled v.log → n.settled ≡ replay v.settled v.log → record { settled = n.settled; log = items; room = cap; left = n.left; last = n.last; gone = n.gone; unsure = n.unsure } ≡ settle v
-cleared v n items cap none same rest landed =
-    rw (none, same) (ap (λ (u : View). with_book u u.settled []) rest ∙ ap (λ (ts : List Block). with_book v ts []) landed)
 
 -- ---- everything shown landed
 
@@ -85,72 +75,42 @@ noted_gone v w = by (ltb (length v.log) v.room) (ltb 0 v.room)
 
 -- ---- the calls
 
-settled_sync : (v : View) → v.gone ≡ false → Settled (ledger v) (ledger (settle v))
-settled_sync v on = record {
-  stayed = record { kept = kept_settle v; was_on = rw on; on = rw on };
-  only = only_landed (replay v.settled v.log);
-}
-
--- all that a sync which settled promises, with n what is left
-pub synced : (v n : View) → v.gone ≡ false → v.unsure ≡ false → n ≡ settle v → Settled (ledger v) (ledger n) × (n ≡ sync_after v)
-synced v n on sure e =
-    (rw e (settled_sync v on), e ∙ sym (cond-false v.gone v _ on ∙ cond-false v.unsure v (settle v) sure))
-
-pub synced_answer : (v : View) → v.gone ≡ false → v.unsure ≡ false → Ok SettledAnswer ≡ sync_answer v
-synced_answer v on sure =
-    sym (cond-false v.gone _ _ on ∙ ap (λ (t : Bool). Ok (cond t Unsure SettledAnswer)) sure)
-
-pub written_noted : (v : View) (b : BlockNo) (c : Block) (o : Option ℕ) → v.gone ≡ false → b.0 < blocks v → Written b.0 c (ledger v) (ledger (noted (record { block = b; bytes = c }) (with_left v o)))
-written_noted v b c o on l =
-    let w : Put = record { block = b; bytes = c } in
-    let j = joined_noted (with_left v o) w (omega arith) in
-    record {
-      count = j.count;
-      was_on = rw on;
-      on = ap not (noted_gone (with_left v o) w ∙ on);
-      within = l;
-      shown = j.shown;
-      stands = j.stands;
-    }
-
-pub torn_noted : (v : View) (b : BlockNo) (c : Block) → b.0 < blocks v → Torn b.0 c (ledger v) (ledger (noted (record { block = b; bytes = c }) (turned_off v)))
-torn_noted v b c l =
-    let w : Put = record { block = b; bytes = c } in
-    let j = joined_noted (turned_off v) w (omega arith) in
-    record {
-      count = j.count;
-      off = ap not (noted_gone (turned_off v) w);
-      within = l;
-      shown = inr j.shown;
-      stands = j.stands;
-    }
+-- a sync that settled
+pub settled_sync : (v n : View) → v.gone ≡ false → n ≡ settle v → Settled (ledger v) (ledger n)
+settled_sync v n on e =
+    rw e (record {
+      stayed = record { kept = kept_settle v; was_on = rw on; on = rw on };
+      only = only_landed (replay v.settled v.log);
+    })
 
 -- a write with the power on, to a block that there is
-module _ (v : View) (b : BlockNo) (c : Block) (on : v.gone ≡ false) (l : b.0 < blocks v) where
-  abbrev w : Put
-  w = record { block = b; bytes = c }
+module _ (v : View) (b : BlockNo) (c : Block) (l : b.0 < blocks v) (n : View) where
+  -- a put was noted with another fuse
+  pub written_noted : (o : Option ℕ) → v.gone ≡ false → n ≡ noted (record { block = b; bytes = c }) (with_left v o) → Written b.0 c (ledger v) (ledger n)
+  written_noted o on e =
+      let w : Put = record { block = b; bytes = c } in
+      let j = joined_noted (with_left v o) w (omega arith) in
+      rw e (record {
+        count = j.count;
+        was_on = rw on;
+        on = ap not (noted_gone (with_left v o) w ∙ on);
+        within = l;
+        shown = j.shown;
+        stands = j.stands;
+      })
 
-  to_block : write_after w v ≡ cond (spent v.left) (leave v.last w (turned_off v)) (noted w (with_left v (fewer v.left)))
-  to_block = cond-false v.gone _ _ on ∙ cond-true (ltb b.0 (blocks v)) _ _ (lt-ltb _ _ l)
-
-  answered : {U : Type 0} (u : U) → write_answer u b v ≡ cond (spent v.left) (Err (PowerGone b)) (Ok u)
-  answered u = cond-false v.gone _ _ on ∙ cond-true (ltb b.0 (blocks v)) _ _ (lt-ltb _ _ l)
-
-  -- all that an accepted write promises, with n what is left
-  pub accepted : (n : View) → spent v.left ≡ false → n ≡ noted w (with_left v (fewer v.left)) → Written b.0 c (ledger v) (ledger n) × (n ≡ write_after w v)
-  accepted n more e =
-      (rw e (written_noted v b c (fewer v.left) on l), e ∙ sym (to_block ∙ cond-false (spent v.left) _ _ more))
-
-  pub accepted_answer : {U : Type 0} (u : U) → spent v.left ≡ false → Ok u ≡ write_answer u b v
-  accepted_answer u more = sym (answered u ∙ cond-false (spent v.left) _ _ more)
-
-  -- and one that took the power, but whose bytes may stand
-  pub broken : (n : View) → spent v.left ≡ true → v.last ≡ MayStand → n ≡ noted w (turned_off v) → Torn b.0 c (ledger v) (ledger n) × (n ≡ write_after w v)
-  broken n none last e =
-      (rw e (torn_noted v b c l), e ∙ sym (to_block ∙ cond-true (spent v.left) _ _ none ∙ ap (λ (k : LastWrite). leave k w (turned_off v)) last))
-
-  pub broken_answer : {U : Type 0} (u : U) → spent v.left ≡ true → Err (PowerGone b) ≡ write_answer u b v
-  broken_answer u none = sym (answered u ∙ cond-true (spent v.left) _ _ none)
+  -- and with the power off
+  pub torn_noted : n ≡ noted (record { block = b; bytes = c }) (turned_off v) → Torn b.0 c (ledger v) (ledger n)
+  torn_noted e =
+      let w : Put = record { block = b; bytes = c } in
+      let j = joined_noted (turned_off v) w (omega arith) in
+      rw e (record {
+        count = j.count;
+        off = ap not (noted_gone (turned_off v) w);
+        within = l;
+        shown = inr j.shown;
+        stands = j.stands;
+      })
 
 -- ---- a cut
 

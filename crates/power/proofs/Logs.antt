@@ -1,6 +1,6 @@
 -- What blocks show, and what may stand there, as puts join a log and as a log lands.
-use Rattle.std.proofs.Common.{◌≡◌, ℕ, zero, suc, ◌+◌, ◌-◌, ◌%◌, ◌<◌, ◌≤◌, Bool, true, false, cond, eqb, ltb, ◌⊎◌, List, [], ◌∷◌, ◌++◌, length, get_or, drop, set, sym, refl, ap, ◌∙◌, inl, inr, ⊎_elim, arith, length-set}
-use Rattle.std.proofs.lemmas.List.{get_or-set_same, get_or-set_other, get_or_past, get_or_read, drop_more, drop_all}
+use Rattle.std.proofs.Common.{◌≡◌, ℕ, zero, suc, ◌+◌, ◌%◌, ◌<◌, ◌≤◌, Bool, true, false, cond, eqb, ltb, ◌⊎◌, List, [], ◌∷◌, ◌++◌, length, get_or, set, sym, refl, ap, ◌∙◌, inl, inr, ⊎_elim, arith, length-set}
+use Rattle.std.proofs.lemmas.List.{get_or-set_same, get_or-set_other, get_or_past, get_or_read}
 use Rattle.std.proofs.lemmas.Bool.{cases_eq, cases_lt, eq-eqb, ne_eqb, lt-ltb, le-ltb}
 use Rattle.device.specs.Model.{Block, In, Is, put}
 use Rattle.device.specs.declared.put.Put.{Put}
@@ -109,76 +109,31 @@ pub shows_replay : (ss : List Block) (log : List Put) (i : ℕ) → shows (repla
 shows_replay ss [] i = refl
 shows_replay ss (w ∷ ws) i = shows_replay (set ss w.block.0 w.bytes) ws i ∙ shows_step ss w ws i
 
--- ---- a loop over a log
-
-module _ (log : List Put) (i : ℕ) (d : Put) (b : ℕ) (l : i < length log) where
-  pub written_here : (get_or log i d).block.0 ≡ b → written (drop i log) b ≡ (get_or log i d).bytes ∷ written (drop (i + 1) log) b
-  written_here e = let q : eqb b (get_or log i d).block.0 ≡ true = eq-eqb _ _ (sym e) in rw (drop_more log i d l, q)
-
-  pub written_elsewhere : ((get_or log i d).block.0 ≡ b → ⊥) → written (drop i log) b ≡ written (drop (i + 1) log) b
-  written_elsewhere ne = let q : eqb b (get_or log i d).block.0 ≡ false = ne_eqb _ _ (λ e. ne (sym e)) in rw (drop_more log i d l, q)
-
-  pub newest_then : (s x : Block) → (get_or log i d).block.0 ≡ b → x ≡ (get_or log i d).bytes → newest_of x (written (drop (i + 1) log) b) ≡ newest_of s (written (drop i log) b)
-  newest_then s x e is = rw (is, written_here e)
-
-  pub newest_else : (s x : Block) → ((get_or log i d).block.0 ≡ b → ⊥) → x ≡ s → newest_of x (written (drop (i + 1) log) b) ≡ newest_of s (written (drop i log) b)
-  newest_else s x ne is = rw (is, written_elsewhere ne)
-
-  pub many_then : (get_or log i d).block.0 ≡ b → length (written (drop i log) b) ≡ length (written (drop (i + 1) log) b) + 1
-  many_then e = rw (written_here e) (omega arith)
-
-  pub many_else : ((get_or log i d).block.0 ≡ b → ⊥) → length (written (drop i log) b) ≡ length (written (drop (i + 1) log) b)
-  many_else ne = rw (written_elsewhere ne)
-
-  pub nth_then : (s x : Block) (k n : ℕ) → (k ≡ 0 → ⊥) → n ≡ k - 1 → (get_or log i d).block.0 ≡ b → x ≡ (get_or log i d).bytes → get_or (x ∷ written (drop (i + 1) log) b) n [] ≡ get_or (s ∷ written (drop i log) b) k []
-  nth_then s x zero n ne less e is = absurd (ne refl)
-  nth_then s x (suc k) n ne less e is = let q : n ≡ k = omega arith in rw (q, is, written_here e)
-
-  pub nth_else : (s x : Block) (k n : ℕ) → n ≡ k → ((get_or log i d).block.0 ≡ b → ⊥) → x ≡ s → get_or (x ∷ written (drop (i + 1) log) b) n [] ≡ get_or (s ∷ written (drop i log) b) k []
-  nth_else s x k n same ne is = rw (same, is, written_elsewhere ne)
-
-pub nth_first : (s : Block) (xs : List Block) (k : ℕ) → k ≡ 0 → s ≡ get_or (s ∷ xs) k []
-nth_first s xs k e = rw e
-
-pub written_done : (log : List Put) (i b : ℕ) → length log ≤ i → written (drop i log) b ≡ []
-written_done log i b h = rw (drop_all i log h)
-
-pub replay_more : (ss : List Block) (log : List Put) (i : ℕ) (d : Put) → i < length log → replay (set ss (get_or log i d).block.0 (get_or log i d).bytes) (drop (i + 1) log) ≡ replay ss (drop i log)
-replay_more ss log i d l = rw (drop_more log i d l)
-
-pub replay_done : (ss : List Block) (log : List Put) (i : ℕ) → length log ≤ i → replay ss (drop i log) ≡ ss
-replay_done ss log i h = rw (drop_all i log h)
-
 -- ---- a block that there is
 
-module _ (ss : List Block) (log : List Put) (b : ℕ) (l : b < length ss) (x : Block) (is : x ≡ get_or ss b x) where
+module _ (ss : List Block) (log : List Put) (b : ℕ) (l : b < length ss) where
   held_all : held ss log b ≡ written log b
   held_all = let t : ltb b (length ss) ≡ true = lt-ltb _ _ l in rw t
 
-  pub shows_is : (r : Block) → r ≡ newest_of x (written log b) → r ≡ shows ss log b
+  pub shows_is : (x : Block) → x ≡ get_or ss b x → (r : Block) → r ≡ newest_of x (written log b) → r ≡ shows ss log b
   unfolding shows
-  shows_is r h = rw (held_all, ← get_or_read ss b x l is []) h
+  shows_is x is r h = rw (held_all, ← get_or_read ss b x l is []) h
 
-  pub chosen_is : (n : ℕ) (r : Block) → r ≡ get_or (x ∷ written log b) (n % (1 + length (written log b))) [] → r ≡ chosen n ss log b
+  pub chosen_is : (n : ℕ) (r : Block) → r ≡ get_or (get_or ss b [] ∷ written log b) (n % (1 + length (written log b))) [] → r ≡ chosen n ss log b
   unfolding chosen contents
   chosen_is n r h =
-      let e : 1 + length (written log b) ≡ suc (length (written log b)) = omega arith in
-      rw (held_all, ← get_or_read ss b x l is [], ← e) h
-
-pub replay_step : (ss ts : List Block) (log ws : List Put) (i : ℕ) (w : Put) → i < length log → ws ≡ log → w ≡ get_or ws i w → ts ≡ set ss w.block.0 w.bytes → replay ts (drop (i + 1) log) ≡ replay ss (drop i log)
-replay_step ss ts log ws i w l same is e =
-    let here : get_or log i w ≡ w = sym (rw same at is) in rw e (rw here at (replay_more ss log i w l))
+      let e : 1 + length (written log b) ≡ suc (length (written log b)) = omega arith in rw (held_all, ← e) h
 
 -- ---- the blocks land one after another
 
-chosen_same : (n : ℕ) (ss ts : List Block) (log ws : List Put) (b : ℕ) → length ts ≡ length ss → get_or ts b [] ≡ get_or ss b [] → ws ≡ log → chosen n ts ws b ≡ chosen n ss log b
+chosen_same : (n : ℕ) (ss ts : List Block) (log : List Put) (b : ℕ) → length ts ≡ length ss → get_or ts b [] ≡ get_or ss b [] → chosen n ts log b ≡ chosen n ss log b
 unfolding chosen contents
-chosen_same n ss ts log ws b size here same = rw (size, here, same)
+chosen_same n ss ts log b size here = rw (size, here)
 
-pub landed_more : (landing : List ℕ) (ss ts : List Block) (log ws : List Put) (at n : ℕ) (x : Block) → at < length ss → length ts ≡ length ss → ((k : ℕ) → k < at → get_or ts k [] ≡ chosen (pick landing k) ss log k) → get_or ts at [] ≡ get_or ss at [] → ws ≡ log → n ≡ pick landing at → x ≡ chosen n ts ws at → (k : ℕ) → k < at + 1 → get_or (set ts at x) k [] ≡ chosen (pick landing k) ss log k
-landed_more landing ss ts log ws at n x l size below here same picked is k h =
+pub landed_more : (landing : List ℕ) (ss ts : List Block) (log : List Put) (at : ℕ) (x : Block) → at < length ss → length ts ≡ length ss → ((k : ℕ) → k < at → get_or ts k [] ≡ chosen (pick landing k) ss log k) → get_or ts at [] ≡ get_or ss at [] → x ≡ chosen (pick landing at) ts log at → (k : ℕ) → k < at + 1 → get_or (set ts at x) k [] ≡ chosen (pick landing k) ss log k
+landed_more landing ss ts log at x l size below here is k h =
     ⊎_elim
-    (λ e. rw e (get_or-set_same ts at x [] (omega arith) ∙ is ∙ rw picked (chosen_same (pick landing at) ss ts log ws at size here same)))
+    (λ e. rw e (get_or-set_same ts at x [] (omega arith) ∙ is ∙ chosen_same (pick landing at) ss ts log at size here))
     (λ ne. get_or-set_other ts at k x [] ne ∙ below k (omega (arith, ne)))
     (cases_eq k at)
 

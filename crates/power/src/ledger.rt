@@ -1,11 +1,11 @@
 // A device in memory that keeps, for each block, the contents that may stand after a cut: what has landed, and every
 // write since. A test says when the power goes, what the last write leaves, and what lands at a cut.
-ghost use Rattle.std.specs.Prelude.{◌≡◌, ◌<◌, ◌≤◌, false, [], ◌∷◌, length, IfOk, vec_len, slice_index_or, slice_set};
+ghost use Rattle.std.specs.Prelude.{◌≡◌, ◌+◌, ◌%◌, ◌<◌, ◌≤◌, false, [], ◌∷◌, length, IfOk, vec_len, slice_index_or};
 ghost use Rattle.device.specs.Answers.{Read, Write, Sync};
 ghost use Rattle.device.specs.Model.{Cut};
 ghost use Rattle.power.specs.View.{view, ledger, blocks, shows, written, newest_of};
-ghost use Rattle.power.specs.Calls.{noted, settle as settled_view, spent as is_spent, fewer as one_fewer, look};
-ghost use Rattle.power.specs.Calls.{pick as pick_of, chosen, LandedAll, CutLeft, Fresh, with_left, with_last, with_unsure};
+ghost use Rattle.power.specs.Calls.{noted, replay, settle as settled_view, look};
+ghost use Rattle.power.specs.Calls.{pick as pick_of, LandedAll, CutLeft, Fresh, with_left, with_last, with_unsure};
 ghost use Rattle.power.specs.Calls.{read_answer, write_answer, write_after, sync_answer, sync_after};
 
 use crate::PowerCut;
@@ -16,7 +16,7 @@ use device::put::Put;
 use std::alloc::{AllocError, Global};
 
 // What the write that takes the power leaves: nothing, or its bytes among those that may stand.
-#[derive(Clone, Copy)]
+#[derive(Clone, Copy, PartialEq, Eq, Debug)]
 pub enum LastWrite {
     Lost,
     MayStand,
@@ -36,25 +36,7 @@ pub struct Ledger {
     unsure: bool,
 }
 
-fn spent(left: Option<u32>) -> bool
-    ensures { result ≡ is_spent left }
-{
-    match left {
-        Some(n) => n == 0,
-        None => false,
-    }
-}
-
-fn fewer(left: Option<u32>) -> Option<u32>
-    requires { is_spent left ≡ false }
-    ensures { result ≡ one_fewer left }
-{
-    match left {
-        Some(n) => Some(n - 1),
-        None => None,
-    }
-}
-
+// Kept: here and in the two below a put's number is compared to an index, since the blocks are the indices of a Vec.
 // The newest content of a block that had `first` before the writes of the log.
 fn newest(first: [u8; 512], log: &[Put], at: usize) -> [u8; 512]
     ensures { result ≡ newest_of first (written log.now at) }
@@ -111,14 +93,24 @@ fn pick(landing: &[u16], at: usize) -> u16
     landing[at % landing.len()]
 }
 
-// A put lands, if it is to a block that there is.
-fn land(settled: &mut Vec<[u8; 512]>, put: Put)
-    ensures { settled.new.items ≡ slice_set settled.old.items put.block.0 put.bytes }
+// The content that lands by the number `choice` at a block that had `first` before the writes of the log.
+fn landing_at(first: [u8; 512], log: &[Put], at: usize, choice: u16) -> [u8; 512]
+    ensures { result ≡ slice_index_or (first ∷ written log.now at) (choice % (1 + length (written log.now at))) [] }
 {
-    let at = put.block.0 as usize;
-    if at < settled.len() {
-        let bytes = put.bytes;
-        settled[at] = bytes;
+    let many = 1 + writes_to(log, at);
+    nth(first, log, at, choice as usize % many)
+}
+
+// Puts land, one after another. One to a block that there is not is let go.
+fn land(settled: &mut [[u8; 512]], log: &[Put])
+    ensures { settled.new ≡ replay settled.old log.now }
+{
+    for put in log {
+        let at = put.block.0 as usize;
+        if at < settled.len() {
+            let bytes = put.bytes;
+            settled[at] = bytes;
+        }
     }
 }
 
@@ -186,22 +178,11 @@ impl Ledger {
         newest(self.settled[at as usize], &self.log, at as usize)
     }
 
-    // The content that lands at a block by the number `choice`.
-    fn landing_at(&self, at: usize, choice: u16) -> [u8; 512]
-        requires { at < vec_len self.now.settled }
-        ensures { result ≡ chosen choice self.now.settled.items self.now.log.items at }
-    {
-        let many = 1 + writes_to(&self.log, at);
-        nth(self.settled[at], &self.log, at, choice as usize % many)
-    }
-
     // Everything that is shown lands.
     fn settle(&mut self)
         ensures { view self.new ≡ settled_view (view self.old) }
     {
-        for i in 0..self.log.len() {
-            land(&mut self.settled, self.log[i]);
-        }
+        land(&mut self.settled, &self.log);
         self.log.clear();
     }
 
@@ -218,16 +199,15 @@ impl Ledger {
             self.log.push_reserved(put);
             return;
         }
-        land(&mut self.settled, put);
+        land(&mut self.settled, &[put]);
     }
 
     // In each block one content lands.
     fn land_all(&mut self, landing: &[u16])
         ensures { LandedAll landing.now (view self.old) (view self.new) }
     {
-        for at in 0..self.settled.len() {
-            let content = self.landing_at(at, pick(landing, at));
-            self.settled[at] = content;
+        for (at, block) in self.settled.iter_mut().enumerate() {
+            *block = landing_at(*block, &self.log, at, pick(landing, at));
         }
     }
 }
@@ -247,10 +227,7 @@ impl Device for Ledger {
         if self.gone {
             return Err(Fault::PowerGone(at));
         }
-        if at.0 >= self.blocks() {
-            return Err(Fault::NoSuchBlock(at));
-        }
-        Ok(self.content(at.0))
+        self.shown(at).ok_or(Fault::NoSuchBlock(at))
     }
 
     fn write(&mut self, at: BlockNo, bytes: &[u8; 512]) -> Result<(), Fault>
@@ -268,16 +245,18 @@ impl Device for Ledger {
             block: at,
             bytes: *bytes,
         };
-        if !spent(self.left) {
-            self.left = fewer(self.left);
-            self.note(put);
-            return Ok(());
+        if self.left == Some(0) {
+            self.gone = true;
+            if self.last == LastWrite::MayStand {
+                self.note(put);
+            }
+            return Err(Fault::PowerGone(at));
         }
-        self.gone = true;
-        if let LastWrite::MayStand = self.last {
-            self.note(put);
+        if let Some(left) = &mut self.left {
+            *left -= 1;
         }
-        Err(Fault::PowerGone(at))
+        self.note(put);
+        Ok(())
     }
 
     fn sync(&mut self) -> Result<Synced, Fault>

@@ -1,7 +1,8 @@
 -- Every block is examined: the marks agree with the blocks.
-use Rattle.std.proofs.Common.{◌≡◌, ℕ, ◌<◌, Bool, true, false, cond, ◌&&◌, eqb, ltb, List, get_or, is_some, Some, None, Option, sym, refl, ap, ◌∙◌, inl, inr}
+use Rattle.std.proofs.Common.{◌≡◌, ℕ, ◌<◌, Bool, true, false, cond, ◌&&◌, eqb, ltb, List, get_or, is_some, Some, None, Option, sym, refl, ap, ◌∙◌, arith}
 use Rattle.std.specs.Option.{option_map}
-use Rattle.std.proofs.lemmas.Bool.{cases_lt, and_parts, and_right, ltb-true, lt-ltb, le-ltb, cond-true, cond-false}
+use Rattle.std.proofs.lemmas.Bool.{and_parts, ltb-true}
+use Rattle.std.proofs.lemmas.Bool.Decides.{nat_tests}
 use Rattle.base.specs.declared.owner.Back.{Back}
 use Rattle.base.specs.declared.owner.Handle.{Handle}
 use Rattle.layout.specs.Format.{Geometry, Slot, handle}
@@ -11,31 +12,24 @@ use Rattle.rule.proofs.Means.{fits_at, parent_from, parent_parts}
 use Rattle.marks.specs.declared.mark.SlotMark.{SlotMark}
 use Rattle.marks.specs.Marks.{slot_line, slot_mark, body_mark, Agree}
 use Rattle.survey.specs.declared.survey.Survey.{Survey}
-use Rattle.survey.specs.Known.{kept, up_by, slot_mark_by, body_mark_by}
+use Rattle.survey.specs.Known.{kept, is_linked, up_by, slot_mark_by, body_mark_by}
 use Rattle.survey.specs.Survey.{leaf_line, Sofar}
 use Rattle.survey.proofs.Begins.{line_none, sound_among}
 use Rattle.survey.proofs.Examines.{known}
 
 -- a good leaf of a slot is held if the slot is reached
 held_last : (c : Back) (x y z w : Bool) (k : Back → Option Back) → k c ≡ cond w (Some c) None → given (cond (x && (y && z)) (Some c) None) k ≡ cond (x && (y && (z && w))) (Some c) None
-held_last c true true true w k e = e
-held_last c true true false w k e = refl
-held_last c true false z w k e = refl
-held_last c false y z w k e = refl
-
-some_marked : (b : Bool) (m : SlotMark) → is_some (cond b (Some m) None) ≡ b
-some_marked true m = refl
-some_marked false m = refl
+held_last c x y z w k e = grind arith
 
 module _ (g : Geometry) (v : View) (t : Survey) (sofar : Sofar g v g.blocks t) (room : g.slots < g.blocks) where
   there : (s : ℕ) → kept t.slots s ≡ slot_at g v s
   there = known g v g.blocks t sofar room
 
   -- the way up is the rule's
-  up_is : (s : ℕ) → up_by t.slots t.linked s ≡ parent_of g v s
-  up_is s = go (get_or t.linked s false) refl
+  up_is : (s : ℕ) → up_by t.slots s ≡ parent_of g v s
+  up_is s = go (is_linked t.slots s) refl
     where
-      missing : (o : Option ℕ) → parent_of g v s ≡ o → get_or t.linked s false ≡ false → None ≡ o
+      missing : (o : Option ℕ) → parent_of g v s ≡ o → is_linked t.slots s ≡ false → None ≡ o
       missing None e h = refl
       missing (Some p) e h =
           let w = parent_parts g v s p e in
@@ -44,7 +38,7 @@ module _ (g : Geometry) (v : View) (t : Survey) (sofar : Sofar g v g.blocks t) (
           let below = ltb-true n g.blocks (and_parts (ltb g.slots n) (ltb n g.blocks) a).1 in
           clash (sym h ∙ sofar.all_linked w.slot.parent w.leaf w.place w.name (handle s w.slot.identity) w.sound below)
 
-      go : (b : Bool) → get_or t.linked s false ≡ b → cond b (option_map (λ (r : Slot). r.parent.slot.0) (kept t.slots s)) None ≡ parent_of g v s
+      go : (b : Bool) → is_linked t.slots s ≡ b → cond b (option_map (λ (r : Slot). r.parent.slot.0) (kept t.slots s)) None ≡ parent_of g v s
       go true e =
           let w = sofar.linked s e in
           ap (option_map (λ (r : Slot). r.parent.slot.0)) (there s ∙ ap (slot_at g v) (sym w.is) ∙ fits_at g v w.child w.sound.child w.sound.child_fits)
@@ -52,19 +46,19 @@ module _ (g : Geometry) (v : View) (t : Survey) (sofar : Sofar g v g.blocks t) (
           ∙ sym (parent_from g v w.folder w.child w.leaf w.place w.name w.sound) ∙ ap (parent_of g v) w.is
       go false e = missing (parent_of g v s) refl e
 
-  reached_is : (s : ℕ) → climbs (up_by t.slots t.linked) g.slots s ≡ reached g v s
+  reached_is : (s : ℕ) → climbs (up_by t.slots) g.slots s ≡ reached g v s
   reached_is s = λ i. climbs (λ (x : ℕ). up_is x i) g.slots s
 
-  slot_is : (s : ℕ) → slot_mark_by g.slots t.slots t.linked s ≡ slot_mark g v s
+  slot_is : (s : ℕ) → slot_mark_by g.slots t.slots s ≡ slot_mark g v s
   slot_is s = λ i. cond (reached_is s i) (option_map slot_line (there s i)) None
 
   -- a block past the last holds nothing
   line_is_kept : (b : ℕ) → get_or t.bodies b None ≡ leaf_line g v b
-  line_is_kept b = elim (cases_lt b g.blocks) [
-    | inl l ↦ sofar.bodies b ∙ cond-true (ltb b g.blocks) (leaf_line g v b) None (lt-ltb b g.blocks l)
-    | inr l ↦ sofar.bodies b ∙ cond-false (ltb b g.blocks) (leaf_line g v b) None (le-ltb b g.blocks l)
-        ∙ sym (line_none g v b (sofar.apart b (and_right (ltb g.slots b) (ltb b g.blocks) (le-ltb b g.blocks l))))
-  ]
+  line_is_kept b =
+      let kept = sofar.bodies b in
+      let outside = sofar.apart b in
+      let none = line_none g v b in
+      grind (arith, nat_tests)
 
   -- it is a good leaf; and its slot is reached
   abbrev passes : ℕ → Back → Slot → Bool
@@ -76,9 +70,7 @@ module _ (g : Geometry) (v : View) (t : Survey) (sofar : Sofar g v g.blocks t) (
   module _ (ms : List (Option SlotMark)) (marks : (s : ℕ) → get_or ms s None ≡ slot_mark g v s) where
     owner_is : (c : Back) (r : Slot) → slot_at g v c.owner.slot.0 ≡ Some r →
         cond (is_some (get_or ms c.owner.slot.0 None)) (Some c) None ≡ cond (reached g v c.owner.slot.0) (Some c) None
-    owner_is c r e =
-        ap (λ (b : Bool). cond b (Some c) None)
-        (ap is_some (marks c.owner.slot.0 ∙ ap (λ (o : Option Slot). cond (reached g v c.owner.slot.0) (option_map slot_line o) None) e) ∙ some_marked (reached g v c.owner.slot.0) (slot_line r))
+    owner_is c r e = let m = marks c.owner.slot.0 in grind arith
 
     body_is : (b : ℕ) → body_mark_by ms (leaf_line g v b) ≡ body_mark g v b
     body_is b = outer (back_in (v b))
@@ -94,7 +86,7 @@ module _ (g : Geometry) (v : View) (t : Survey) (sofar : Sofar g v g.blocks t) (
         outer None = refl
         outer (Some c) = inner c (slot_at g v c.owner.slot.0) refl
 
-  pub finished : (ms : List (Option SlotMark)) (bs : List (Option Back)) → ((s : ℕ) → get_or ms s None ≡ slot_mark_by g.slots t.slots t.linked s) →
+  pub finished : (ms : List (Option SlotMark)) (bs : List (Option Back)) → ((s : ℕ) → get_or ms s None ≡ slot_mark_by g.slots t.slots s) →
       ((b : ℕ) → get_or bs b None ≡ body_mark_by ms (get_or t.bodies b None)) → Agree g v (record { slots = ms; bodies = bs })
   finished ms bs es eb = record {
     slots = λ s. es s ∙ slot_is s;

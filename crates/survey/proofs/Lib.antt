@@ -1,6 +1,6 @@
 pub mod Links
 pub mod Leaves
 pub mod Begins
-pub mod Examines
 pub mod Fills
+pub mod Examines
 pub mod Finishes

@@ -1,121 +1,186 @@
 -- Links, cell by cell.
-use Rattle.std.proofs.Common.{◌≡◌, ℕ, zero, suc, ◌+◌, ◌<◌, ◌≤◌, Bool, true, false, cond, ◌⊎◌, List, [], ◌∷◌, length, get_or, drop, set, Option, sym, refl, ap, ◌∙◌, inl, inr, arith}
-use Rattle.std.proofs.lemmas.List.{length-set, get_or-set_same, get_or-set_other, get_or_past, drop_more, drop_all}
-use Rattle.std.proofs.lemmas.Bool.{cases_eq, cases_lt}
+use Rattle.std.proofs.Common.{◌≡◌, ℕ, zero, suc, ◌*◌, ◌<◌, Bool, true, false, cond, ◌⊎◌, List, [], ◌∷◌, ◌++◌, length, get_or, length-append, Option, sym, refl, ap, ◌∙◌, subst, inl, inr, arith}
+use Rattle.std.proofs.lemmas.Bool.Decides.{nat_tests}
+use Rattle.std.proofs.lemmas.Grind.{common_steps}
+use Rattle.std.proofs.lemmas.List.{length-set, get_or_past}
+use Rattle.std.proofs.Math.Seq.{take-append_seam, drop-append_seam}
+use Rattle.std.specs.Slice.Iter.{chunks_exact_rest, chunks_exact_size}
+use Rattle.std.specs.declared.slice.ChunksExact.{ChunksExact}
+use Rattle.base.specs.declared.owner.Kind.TheVariants.{Folder}
 use Rattle.base.specs.declared.owner.Handle.{Handle}
-use Rattle.layout.specs.Format.{Name, Cell, Geometry, Entry, entry, no_entry, entry_of}
+use Rattle.base.specs.declared.owner.Back.{Back}
+use Rattle.layout.specs.Format.{Name, Cell, Geometry, Slot, Content, blank, cover, slotted, file_body, folder_body, ill_formed, Entry, entry, no_entry, entry_of, cells_of}
+use Rattle.layout.specs.Head.{cells}
 use Rattle.rule.specs.Agree.{some_is}
-use Rattle.rule.proofs.Steps.{clash}
-use Rattle.walk.specs.declared.slot.SlotCopy.{SlotCopy}
-use Rattle.survey.specs.Known.{kept, child_of, link, links}
-
--- ---- the loop
-
-module _ (g : Geometry) (ss : List (Option SlotCopy)) (f : Handle) where
-  -- one cell more, and none left
-  pub links_more : (es : List Cell) (k : ℕ) (e : Cell) (ms ms' all : List Bool) → k < length es → e ≡ get_or es k [] → ms' ≡ link ss f (entry_of g e) ms →
-      links g ss f (drop k es) ms ≡ all → links g ss f (drop (k + 1) es) ms' ≡ all
-  unfolding links
-  links_more es k e ms ms' all l here next inv =
-      ap (links g ss f (drop (k + 1) es)) (next ∙ ap (λ (x : Cell). link ss f (entry_of g x) ms) here)
-      ∙ sym (ap (λ (xs : List Cell). links g ss f xs ms) (drop_more es k [] l)) ∙ inv
-
-  pub links_all : (es : List Cell) (k : ℕ) (ms all : List Bool) → length es ≤ k → links g ss f (drop k es) ms ≡ all → ms ≡ all
-  unfolding links
-  links_all es k ms all l inv = sym (ap (λ (xs : List Cell). links g ss f xs ms) (drop_all k es l)) ∙ inv
-
-  pub links_none : (es : List Cell) (ms : List Bool) → links g ss f (drop 0 es) ms ≡ links g ss f es ms
-  links_none es ms = refl
+use Rattle.survey.specs.declared.slots.KnownSlot.{KnownSlot}
+use Rattle.survey.specs.declared.slots.Slots.{Slots}
+use Rattle.survey.specs.Known.{kept, is_linked, child_of, linked_at, link, links, is_leaf, links_by}
 
 -- ---- one mark more
 
-abbrev pub Marked : List Bool → ℕ → Type 0
-Marked ms s = get_or ms s false ≡ true
+abbrev pub mark_of : Option KnownSlot → Bool
+mark_of o = some_is o (λ k. k.linked)
 
-marked_inside : (ms : List Bool) (s : ℕ) → Marked ms s → s < length ms
-marked_inside ms s h = elim (cases_lt s (length ms)) [ inl l ↦ l | inr l ↦ clash (sym (get_or_past ms s false l) ∙ h) ]
+abbrev pub Marked : Slots → ℕ → Type 0
+Marked ss s = is_linked ss s ≡ true
 
-set_old : (ms : List Bool) (s t : ℕ) → Marked ms t → Marked (set ms s true) t
-set_old ms s t h = elim (cases_eq t s) [
-  | inl e ↦ ap (λ (i : ℕ). get_or (set ms s true) i false) e ∙ get_or-set_same ms s true false (let l = marked_inside ms t h in omega arith)
-  | inr ne ↦ get_or-set_other ms s t true false ne ∙ h
-]
+-- the same slots are known, and as many marks or more
+pub record Grows (ss ts : Slots) : Type 0 where
+  pub kept : (s : ℕ) → kept ts s ≡ kept ss s
+  pub long : length ts.known ≡ length ss.known
+  pub marks : (s : ℕ) → Marked ss s → Marked ts s
 
-set_was : (ms : List Bool) (s t : ℕ) → Marked (set ms s true) t → (s ≡ t) ⊎ Marked ms t
-set_was ms s t h = elim (cases_eq t s) [ inl e ↦ inl (sym e) | inr ne ↦ inr (sym (get_or-set_other ms s t true false ne) ∙ h) ]
+grows_not : (ss : Slots) → Grows ss ss
+grows_not ss = record { kept = λ s. refl; long = refl; marks = λ s h. h }
+
+grows_then : {ss ts us : Slots} → Grows ss ts → Grows ts us → Grows ss us
+grows_then a b = record { kept = λ s. b.kept s ∙ a.kept s; long = b.long ∙ a.long; marks = λ s h. b.marks s (a.marks s h) }
+
+set_grows : (ss : Slots) (i : ℕ) → Grows ss (linked_at ss i)
+set_grows ss i = record {
+  kept = λ s. grind (arith, nat_tests, common_steps);
+  long = length-set ss.known i _;
+  marks = λ s h. grind (arith, common_steps);
+}
+
+set_was : (ss : Slots) (i s : ℕ) → Marked (linked_at ss i) s → (i ≡ s) ⊎ Marked ss s
+set_was ss i s h = grind (arith, common_steps)
+
+set_has : (ss : Slots) (s : ℕ) (p : Slot → Bool) → some_is (kept ss s) p ≡ true → Marked (linked_at ss s) s
+set_has ss s p h = grind (arith, common_steps, get_or_past)
+
+-- ---- the loop
+
+module _ (g : Geometry) (f : Handle) where
+  -- the cells that are left
+  pub record Left (it : ChunksExact ℕ) (ss all : Slots) : Type 0 where
+    pub size : chunks_exact_size it ≡ 32
+    pub count : ℕ
+    pub long : length (chunks_exact_rest it) ≡ 32 * count
+    pub linked : links g f (cells_of count (chunks_exact_rest it)) ss ≡ all
+
+  pub left_all : (it : ChunksExact ℕ) (z : List ℕ) (ss : Slots) → chunks_exact_size it ≡ 32 → chunks_exact_rest it ≡ z → length z ≡ 480 → Left it ss (links g f (cells z) ss)
+  unfolding cells
+  left_all it z ss size e long =
+      record { size = size; count = 15; long = ap length e ∙ long; linked = ap (λ (y : List ℕ). links g f (cells_of 15 y) ss) e }
+
+  pub left_none : {it : ChunksExact ℕ} {ss all : Slots} → Left it ss all → length (chunks_exact_rest it) < chunks_exact_size it → ss ≡ all
+  unfolding links
+  left_none {it = it} {ss = ss} w low =
+      sym (ap (λ (k : ℕ). links g f (cells_of k (chunks_exact_rest it)) ss) (let e = w.size in let l = w.long in let z : w.count ≡ 0 = omega arith in z)) ∙ w.linked
+
+  left_next : (n : ℕ) (rest x next : List ℕ) (ss all : Slots) → length rest ≡ 32 * n → rest ≡ x ++ next → length x ≡ 32 → links g f (cells_of n rest) ss ≡ all →
+      (k : ℕ) × (length next ≡ 32 * k) × (links g f (cells_of k next) (link f (entry_of g x) ss) ≡ all)
+  unfolding links
+  left_next zero rest x next ss all long e is h = absurd (let k = ap length e in omega (arith, length-append x next))
+  left_next (suc n) rest x next ss all long e is h =
+      let first = take-append_seam x next in
+      let after = drop-append_seam x next in
+      (n, (let k = ap length e in omega (arith, length-append x next)), grind arith)
+
+  -- one cell less
+  pub left_more : {it : ChunksExact ℕ} {ss all : Slots} → Left it ss all → (x : List ℕ) (next : ChunksExact ℕ) (ss' : Slots) →
+      chunks_exact_size next ≡ chunks_exact_size it → chunks_exact_rest it ≡ x ++ chunks_exact_rest next → length x ≡ chunks_exact_size it →
+      ss' ≡ link f (entry_of g x) ss → Left next ss' all
+  left_more {it = it} {ss = ss} {all = all} w x next ss' size e long is =
+      let t = left_next w.count (chunks_exact_rest it) x (chunks_exact_rest next) ss all w.long e (long ∙ w.size) w.linked in
+      record { size = size ∙ w.size; count = t.0; long = t.1; linked = ap (links g f (cells_of t.0 (chunks_exact_rest next))) is ∙ t.2 }
 
 -- ---- what the links mark
 
-module _ (g : Geometry) (ss : List (Option SlotCopy)) (f : Handle) where
-  -- the slot of the child agrees
-  abbrev pub Agreeing : Handle → Type 0
-  Agreeing c = some_is (kept ss c.slot.0) (child_of f c) ≡ true
+module _ (g : Geometry) (f : Handle) where
+  with_grows : (b : Bool) (ss : Slots) (s : ℕ) → Grows ss (cond b (linked_at ss s) ss)
+  with_grows true ss s = set_grows ss s
+  with_grows false ss s = grows_not ss
 
-  pub record One (e : Entry) (s : ℕ) : Type 0 where
-    pub name : Name
-    pub child : Handle
-    pub here : e ≡ entry name child
-    pub agreeing : Agreeing child
-    pub is : child.slot.0 ≡ s
+  link_grows : (e : Entry) (ss : Slots) → Grows ss (link f e ss)
+  link_grows (entry n c) ss = with_grows (some_is (kept ss c.slot.0) (child_of f c)) ss c.slot.0
+  link_grows no_entry ss = grows_not ss
 
-  link_old : (e : Entry) (ms : List Bool) (t : ℕ) → Marked ms t → Marked (link ss f e ms) t
-  link_old (entry n c) ms t h = go (some_is (kept ss c.slot.0) (child_of f c))
-    where
-      go : (b : Bool) → Marked (cond b (set ms c.slot.0 true) ms) t
-      go true = set_old ms c.slot.0 t h
-      go false = h
-  link_old no_entry ms t h = h
-
-  link_was : (e : Entry) (ms : List Bool) (t : ℕ) → Marked (link ss f e ms) t → Marked ms t ⊎ One e t
-  link_was (entry n c) ms t h = go (some_is (kept ss c.slot.0) (child_of f c)) refl h
-    where
-      go : (b : Bool) → some_is (kept ss c.slot.0) (child_of f c) ≡ b → Marked (cond b (set ms c.slot.0 true) ms) t → Marked ms t ⊎ One (entry n c) t
-      go true e h = elim (set_was ms c.slot.0 t h) [ inl q ↦ inr (record { name = n; child = c; here = refl; agreeing = e; is = q }) | inr old ↦ inl old ]
-      go false e h = inl h
-  link_was no_entry ms t h = inl h
-
-  link_has : (e : Entry) (ms : List Bool) (n : Name) (c : Handle) → e ≡ entry n c → Agreeing c → c.slot.0 < length ms → Marked (link ss f e ms) c.slot.0
-  link_has e ms n c q a l =
-      ap (λ (x : Entry). get_or (link ss f x ms) c.slot.0 false) q
-      ∙ ap (λ (b : Bool). get_or (cond b (set ms c.slot.0 true) ms) c.slot.0 false) a
-      ∙ get_or-set_same ms c.slot.0 true false l
-
-  link_length : (e : Entry) (ms : List Bool) → length (link ss f e ms) ≡ length ms
-  link_length (entry n c) ms = go (some_is (kept ss c.slot.0) (child_of f c))
-    where
-      go : (b : Bool) → length (cond b (set ms c.slot.0 true) ms) ≡ length ms
-      go true = length-set ms c.slot.0 true
-      go false = refl
-  link_length no_entry ms = refl
-
-  -- one of some cells
-  pub record Via (es : List Cell) (s : ℕ) : Type 0 where
-    pub place : ℕ
-    pub inside : place < length es
-    pub one : One (entry_of g (get_or es place [])) s
-
-  pub links_length : (es : List Cell) (ms : List Bool) → length (links g ss f es ms) ≡ length ms
+  pub links_grow : (es : List Cell) (ss : Slots) → Grows ss (links g f es ss)
   unfolding links
-  links_length [] ms = refl
-  links_length (e ∷ es) ms = links_length es (link ss f (entry_of g e) ms) ∙ link_length (entry_of g e) ms
+  links_grow [] ss = grows_not ss
+  links_grow (e ∷ es) ss = grows_then (link_grows (entry_of g e) ss) (links_grow es (link f (entry_of g e) ss))
 
-  pub links_old : (es : List Cell) (ms : List Bool) (t : ℕ) → Marked ms t → Marked (links g ss f es ms) t
-  unfolding links
-  links_old [] ms t h = h
-  links_old (e ∷ es) ms t h = links_old es (link ss f (entry_of g e) ms) t (link_old (entry_of g e) ms t h)
+  -- by the slots that are there
+  module _ (there : ℕ → Option Slot) where
+    abbrev Knows : Slots → Type 0
+    Knows ss = (s : ℕ) → kept ss s ≡ there s
 
-  pub links_was : (es : List Cell) (ms : List Bool) (t : ℕ) → Marked (links g ss f es ms) t → Marked ms t ⊎ Via es t
-  unfolding links
-  links_was [] ms t h = inl h
-  links_was (e ∷ es) ms t h = elim (links_was es (link ss f (entry_of g e) ms) t h) [
-    | inl m ↦ elim (link_was (entry_of g e) ms t m) [ inl old ↦ inl old | inr o ↦ inr (record { place = 0; inside = omega arith; one = o }) ]
-    | inr w ↦ inr (record { place = suc w.place; inside = (let l = w.inside in omega arith); one = w.one })
-  ]
+    -- the slot of the child agrees
+    abbrev pub Agreeing : Handle → Type 0
+    Agreeing c = some_is (there c.slot.0) (child_of f c) ≡ true
 
-  pub links_has : (es : List Cell) (ms : List Bool) (p : ℕ) (n : Name) (c : Handle) → p < length es → entry_of g (get_or es p []) ≡ entry n c →
-      Agreeing c → c.slot.0 < length ms → Marked (links g ss f es ms) c.slot.0
-  unfolding links
-  links_has [] ms p n c l e a s = absurd (omega arith)
-  links_has (x ∷ es) ms zero n c l e a s = links_old es (link ss f (entry_of g x) ms) c.slot.0 (link_has (entry_of g x) ms n c e a s)
-  links_has (x ∷ es) ms (suc p) n c l e a s =
-      links_has es (link ss f (entry_of g x) ms) p n c (omega arith) e a (let q = link_length (entry_of g x) ms in omega arith)
+    pub record One (e : Entry) (s : ℕ) : Type 0 where
+      pub name : Name
+      pub child : Handle
+      pub here : e ≡ entry name child
+      pub agreeing : Agreeing child
+      pub is : child.slot.0 ≡ s
+
+    link_knows : (e : Entry) (ss : Slots) → Knows ss → Knows (link f e ss)
+    link_knows e ss known s = (link_grows e ss).kept s ∙ known s
+
+    link_was : (e : Entry) (ss : Slots) → Knows ss → (s : ℕ) → Marked (link f e ss) s → Marked ss s ⊎ One e s
+    link_was (entry n c) ss known s h = go (some_is (kept ss c.slot.0) (child_of f c)) refl h
+      where
+        go : (b : Bool) → some_is (kept ss c.slot.0) (child_of f c) ≡ b → Marked (cond b (linked_at ss c.slot.0) ss) s → Marked ss s ⊎ One (entry n c) s
+        go true e h = elim (set_was ss c.slot.0 s h) [
+          | inl q ↦ inr (record { name = n; child = c; here = refl; agreeing = ap (λ (o : Option Slot). some_is o (child_of f c)) (sym (known c.slot.0)) ∙ e; is = q })
+          | inr old ↦ inl old
+        ]
+        go false e h = inl h
+    link_was no_entry ss known s h = inl h
+
+    link_has : (e : Entry) (ss : Slots) → Knows ss → (n : Name) (c : Handle) → e ≡ entry n c → Agreeing c → Marked (link f e ss) c.slot.0
+    link_has e ss known n c q a =
+        let h : some_is (kept ss c.slot.0) (child_of f c) ≡ true = ap (λ (o : Option Slot). some_is o (child_of f c)) (known c.slot.0) ∙ a in
+        ap (λ (x : Entry). is_linked (link f x ss) c.slot.0) q
+        ∙ ap (λ (b : Bool). is_linked (cond b (linked_at ss c.slot.0) ss) c.slot.0) h
+        ∙ set_has ss c.slot.0 (child_of f c) h
+
+    -- one of some cells
+    pub record Via (es : List Cell) (s : ℕ) : Type 0 where
+      pub place : ℕ
+      pub inside : place < length es
+      pub one : One (entry_of g (get_or es place [])) s
+
+    pub links_was : (es : List Cell) (ss : Slots) → Knows ss → (s : ℕ) → Marked (links g f es ss) s → Marked ss s ⊎ Via es s
+    unfolding links
+    links_was [] ss known s h = inl h
+    links_was (e ∷ es) ss known s h = elim (links_was es (link f (entry_of g e) ss) (link_knows (entry_of g e) ss known) s h) [
+      | inl m ↦ elim (link_was (entry_of g e) ss known s m) [ inl old ↦ inl old | inr o ↦ inr (record { place = 0; inside = omega arith; one = o }) ]
+      | inr w ↦ inr (record { place = suc w.place; inside = (let l = w.inside in omega arith); one = w.one })
+    ]
+
+    pub links_has : (es : List Cell) (ss : Slots) → Knows ss → (p : ℕ) (n : Name) (c : Handle) → p < length es → entry_of g (get_or es p []) ≡ entry n c →
+        Agreeing c → Marked (links g f es ss) c.slot.0
+    unfolding links
+    links_has [] ss known p n c l e a = absurd (omega arith)
+    links_has (x ∷ es) ss known zero n c l e a = (links_grow es (link f (entry_of g x) ss)).marks c.slot.0 (link_has (entry_of g x) ss known n c e a)
+    links_has (x ∷ es) ss known (suc p) n c l e a = links_has es (link f (entry_of g x) ss) (link_knows (entry_of g x) ss known) p n c (omega arith) e a
+
+-- ---- by what a block holds
+
+-- nothing is marked, or the block is a good leaf of a folder
+pub data Linking (g : Geometry) (b : ℕ) (x : Content) (ss : Slots) : Type 0 where
+  nothing : links_by g b x ss ≡ ss → Linking g b x ss
+  folder : (c : Back) (es : List Cell) → x ≡ folder_body c es → is_leaf ss Folder c b ≡ true → links_by g b x ss ≡ links g c.owner es ss → Linking g b x ss
+
+pub linking : (g : Geometry) (b : ℕ) (x : Content) (ss : Slots) → Linking g b x ss
+linking g b (folder_body c es) ss = go (is_leaf ss Folder c b) refl
+  where
+    go : (t : Bool) → is_leaf ss Folder c b ≡ t → Linking g b (folder_body c es) ss
+    go true e = folder c es refl e (ap (λ (t : Bool). cond t (links g c.owner es ss) ss) e)
+    go false e = nothing (ap (λ (t : Bool). cond t (links g c.owner es ss) ss) e)
+linking g b (file_body c x) ss = nothing refl
+linking g b blank ss = nothing refl
+linking g b (cover z) ss = nothing refl
+linking g b (slotted r) ss = nothing refl
+linking g b ill_formed ss = nothing refl
+
+pub by_grows : (g : Geometry) (b : ℕ) (x : Content) (ss : Slots) → Grows ss (links_by g b x ss)
+by_grows g b x ss = elim (linking g b x ss) [
+  | nothing e ↦ subst (Grows ss) (sym e) (grows_not ss)
+  | folder c es is leaf e ↦ subst (Grows ss) (sym e) (links_grow g c.owner es ss)
+]

@@ -6,7 +6,7 @@ use Rattle.layout.specs.Format.{Name, Geometry, body_number}
 use Rattle.rule.specs.Agree.{View, slot_at, number, good, given, back_in}
 use Rattle.rule.specs.Meaning.{Sound}
 use Rattle.survey.specs.declared.survey.Survey.{Survey}
-use Rattle.survey.specs.Known.{kept}
+use Rattle.survey.specs.Known.{kept, is_linked}
 
 -- the back line of block b, if it is a good leaf of the slot that it names, reached or not
 abbrev pub leaf_line : Geometry → View → ℕ → Option Back
@@ -34,9 +34,8 @@ pub record Sofar (g : Geometry) (v : View) (next : ℕ) (t : Survey) : Type 0 wh
   pub slots : (s : ℕ) → kept t.slots s ≡ cond (nat_lt (suc s) next) (slot_at g v s) None
   pub bodies : (b : ℕ) → slice_index_or t.bodies b None ≡ cond (nat_lt b next) (leaf_line g v b) None
   -- what is marked, a sound entry leads to; and what a sound entry in one of them leads to is marked
-  pub linked : (s : ℕ) → slice_index_or t.linked s false ≡ true → Linked g v s
+  pub linked : (s : ℕ) → is_linked t.slots s ≡ true → Linked g v s
   pub all_linked : (f : Handle) (k p : ℕ) (n : Name) (c : Handle) (w : Sound g v f k p n c) → number w.slot k < next →
-      slice_index_or t.linked c.slot.0 false ≡ true
-  pub slot_count : length t.slots ≡ 256
-  pub linked_count : length t.linked ≡ 256
+      is_linked t.slots c.slot.0 ≡ true
+  pub slot_count : length t.slots.known ≡ 256
   pub body_count : length t.bodies ≡ 4096

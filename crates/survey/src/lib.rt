@@ -1,7 +1,6 @@
 // The survey of a card: one look at each of its blocks, in order, and at the end the marks.
 #![tactic(auto)]
 
-mod leaf;
-mod link;
 mod mark;
+mod slots;
 pub mod survey;

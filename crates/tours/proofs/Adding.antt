@@ -1,6 +1,6 @@
 -- Lines added one after another.
 use Rattle.std.proofs.Common.{◌≡◌, ℕ, ◌+◌, ◌^◌, ◌<◌, ◌≤◌, List, [], ◌++◌, sym, subst, append_assoc, arith}
-use Rattle.std.proofs.lemmas.List.{append-nil, length-append}
+use Rattle.std.proofs.lemmas.List.{length-append}
 use Rattle.listing.specs.Lines.{Sofar}
 use Rattle.listing.proofs.Listing.{none_yet}
 use Rattle.device.specs.Model.{Model}
@@ -9,9 +9,6 @@ use Rattle.walk.specs.Still.{Still}
 use Rattle.tours.specs.Lists.{Adds}
 
 module _ {L : Type 0} where
-  pub adds_none : (most count : ℕ) (lines : List L) → Adds most [] count lines count lines
-  adds_none most count lines = record { few = omega arith; onto = λ before done room s. subst (λ (xs : List L). Sofar before xs count lines) (sym (append-nil done)) s }
-
   pub adds_then : (a b : ℕ) (xs ys : List L) (c : ℕ) (l : List L) (c' : ℕ) (l' : List L) (c'' : ℕ) (l'' : List L) →
       Adds a xs c l c' l' → Adds b ys c' l' c'' l'' → Adds (a + b) (xs ++ ys) c l c'' l''
   adds_then a b xs ys c l c' l' c'' l'' p q = record {
@@ -36,3 +33,7 @@ module _ {L : Type 0} where
   -- all that was added, over lines where nothing was listed
   pub adds_all : (a : ℕ) (xs : List L) (l : List L) (c : ℕ) (l' : List L) → a < 2 ^ 64 → Adds a xs 0 l c l' → Sofar l xs c l'
   adds_all a xs l c l' h p = p.onto l [] (omega (arith, p.few, h)) (none_yet l)
+
+  -- what a list holds is what the caller's lines are left with
+  pub listed_to : (before begun : List L) (xs ys : List L) (c c' : ℕ) (l l' : List L) → begun ≡ before → xs ≡ ys → c' ≡ c → l ≡ l' → Sofar begun xs c l → Sofar before ys c' l'
+  listed_to before begun xs ys c c' l l' eb ex ec el s = rw (sym eb, sym ex, ec, sym el) s

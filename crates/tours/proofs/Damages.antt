@@ -1,7 +1,8 @@
 -- The rows of damage, leaf by leaf and slot by slot.
-use Rattle.std.proofs.Common.{◌≡◌, ℕ, ◌+◌, Bool, true, false, cond, not, List, [], ◌∷◌, ◌++◌, map, get_or, Some, None, Option, sym, refl, ap, ◌∙◌}
+use Rattle.std.proofs.Common.{◌≡◌, ℕ, ◌+◌, Bool, true, false, cond, not, List, [], ◌∷◌, ◌++◌, map, get_or, Some, Option, sym, refl, ap, ◌∙◌}
 use Rattle.std.proofs.lemmas.List.{append_assoc, append-nil, map-append}
 use Rattle.std.proofs.lemmas.Simd.{map-map}
+use Rattle.std.proofs.lemmas.Bool.{cond-true, cond-false}
 use Rattle.base.specs.declared.owner.Handle.{Handle}
 use Rattle.layout.specs.Format.{Geometry, Slot, handle}
 use Rattle.rule.specs.Agree.{View, those, from, good, count, slot_at}
@@ -22,9 +23,6 @@ module _ (g : Geometry) (v : View) where
       sym (ap (λ (o : Option Slot). map damage_row (bad_leaves_of v s o)) e
       ∙ map-map damage_row (λ (k : ℕ). record { slot = s; leaf = k }) (those (λ k. not (good v (handle s r.identity) r k)) (from 0 (count r))))
 
-  pub slot_missing : (s : ℕ) → slot_at g v s ≡ None → [] ≡ slot_rows g v s
-  slot_missing s e = sym (ap (λ (o : Option Slot). map damage_row (bad_leaves_of v s o)) e)
-
   bad_append : (xs ys : List ℕ) → bad_leaves g v (xs ++ ys) ≡ bad_leaves g v xs ++ bad_leaves g v ys
   bad_append [] ys = refl
   bad_append (x ∷ xs) ys =
@@ -38,10 +36,18 @@ module _ (g : Geometry) (v : View) where
       go true = ap (map damage_row) (append-nil (bad_leaves_of v s (slot_at g v s)))
       go false = refl
 
-  pub slots_more : (marks : List Bool) (s : ℕ) → marked_rows g v marks (from 0 s) ++ cond (get_or marks s false) (slot_rows g v s) [] ≡ marked_rows g v marks (from 0 (s + 1))
+  slots_more : (marks : List Bool) (s : ℕ) → marked_rows g v marks (from 0 s) ++ cond (get_or marks s false) (slot_rows g v s) [] ≡ marked_rows g v marks (from 0 (s + 1))
   slots_more marks s =
       ap (λ (rows : List DamageRow). marked_rows g v marks (from 0 s) ++ rows) (sym (one_row marks s))
       ∙ sym (ap (marked_rows g v marks) (from_more s)
       ∙ ap (λ (ss : List ℕ). map damage_row (bad_leaves g v ss)) (those_append (λ s. get_or marks s false) (from 0 s) (s ∷ []))
       ∙ ap (map damage_row) (bad_append (those (λ s. get_or marks s false) (from 0 s)) (those (λ s. get_or marks s false) (s ∷ [])))
       ∙ map-append damage_row (bad_leaves g v (those (λ s. get_or marks s false) (from 0 s))) (bad_leaves g v (those (λ s. get_or marks s false) (s ∷ []))))
+
+  pub marked_more : (marks : List Bool) (s : ℕ) → get_or marks s false ≡ true → marked_rows g v marks (from 0 s) ++ slot_rows g v s ≡ marked_rows g v marks (from 0 (s + 1))
+  marked_more marks s e = ap (λ (rows : List DamageRow). marked_rows g v marks (from 0 s) ++ rows) (sym (cond-true (get_or marks s false) (slot_rows g v s) [] e)) ∙ slots_more marks s
+
+  pub unmarked_more : (marks : List Bool) (s : ℕ) → get_or marks s false ≡ false → marked_rows g v marks (from 0 s) ≡ marked_rows g v marks (from 0 (s + 1))
+  unmarked_more marks s e =
+      sym (append-nil (marked_rows g v marks (from 0 s)))
+      ∙ ap (λ (rows : List DamageRow). marked_rows g v marks (from 0 s) ++ rows) (sym (cond-false (get_or marks s false) (slot_rows g v s) [] e)) ∙ slots_more marks s

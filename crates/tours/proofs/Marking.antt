@@ -1,8 +1,9 @@
 -- The work goes on.
-use Rattle.std.proofs.Common.{◌≡◌, ℕ, zero, suc, ◌+◌, ◌<◌, ◌≤◌, Bool, true, false, ◌⊎◌, List, [], length, get_or, set, replicate, Some, Result, sym, refl, ap, ◌∙◌, subst, inl, inr, arith}
-use lib.ListN.{length-replicate}
-use Rattle.std.proofs.lemmas.List.{length-set, get_or-set_same, get_or-set_other}
+use Rattle.std.proofs.Common.{◌≡◌, ℕ, zero, suc, ◌+◌, ◌<◌, ◌≤◌, Bool, true, false, List, [], length, get_or, Some, Result, sym, refl, ap, ◌∙◌, subst, inl, inr, arith}
+use Rattle.std.proofs.Math.Bool.{Bool-set}
+use Rattle.std.proofs.Math.Logic.{∥∥₁_elim}
 use Rattle.std.proofs.lemmas.Bool.{cases_eq, and_from, eq-eqb, eqb-true}
+use Rattle.base.specs.declared.number.SlotNo.{SlotNo}
 use Rattle.base.specs.declared.owner.Handle.{Handle}
 use Rattle.device.specs.Model.{Model}
 use Rattle.device.specs.declared.fault.Fault.{Fault}
@@ -16,70 +17,47 @@ use Rattle.rule.proofs.Walks.{climbs_root, climbs_up, climbs_parts, climbs_withi
 use Rattle.rule.proofs.Means.{fits_at, agrees_true, leaf_is, sound_listed, parent_parts, parent_from, up_below}
 use Rattle.walk.specs.Still.{Still, shows}
 use Rattle.walk.proofs.Stills.{says_then}
-use Rattle.tours.specs.Marks.{Marked, MarksReached, Chain, top, below, Entered, Sane, Grew, Onward, Worked, CellDone, CellsDone, CellsChained, LeafDone, LeavesDone, Done, Open}
-use Rattle.tours.proofs.Ticks.{ticks_few, ticks_room, ticks_set, ticks_none}
+use Rattle.tours.specs.Ticks.{Marked, queued, InQueue}
+use Rattle.tours.specs.Marks.{MarksReached, Chain, top, below, Entered, Handed, Chained, Grew, Onward, Worked, CellDone, CellsDone, CellsChained, LeafDone, LeavesDone, Done, Underway, Open}
+use Rattle.tours.specs.declared.work.Work.{Work}
+use Rattle.tours.proofs.Ticks.{ticks_few, queue_room, marked_new, marked_old, queued_old, queued_new}
 
 -- ---- one slot more
 
-pub grew_none : (ms : List Bool) (ws : List ℕ) (n : ℕ) → Grew ms ws n ms ws n
-grew_none ms ws n = record { more = λ t h. h; longer = omega arith; front = λ i h. refl }
+pub grew_none : (w : Work) → Grew w w
+grew_none w = record { more = λ t h. h; longer = omega arith; front = λ i h. refl; head = refl }
 
-pub grew_then : (ms : List Bool) (ws : List ℕ) (n : ℕ) (ms' : List Bool) (ws' : List ℕ) (n' : ℕ) (ms'' : List Bool) (ws'' : List ℕ) (n'' : ℕ) →
-    Grew ms ws n ms' ws' n' → Grew ms' ws' n' ms'' ws'' n'' → Grew ms ws n ms'' ws'' n''
-grew_then ms ws n ms' ws' n' ms'' ws'' n'' p q = record {
+pub grew_then : (w x y : Work) → Grew w x → Grew x y → Grew w y
+grew_then w x y p q = record {
   more = λ t h. q.more t (p.more t h);
   longer = (let a = p.longer in let b = q.longer in omega arith);
   front = λ i h. q.front i (let a = p.longer in omega arith) ∙ p.front i h;
+  head = q.head ∙ p.head;
 }
 
-module _ (ms : List Bool) (s : ℕ) (l : s < length ms) where
-  marked_new : Marked (set ms s true) s
-  marked_new = get_or-set_same ms s true false l
-
-  marked_old : (t : ℕ) → Marked ms t → Marked (set ms s true) t
-  marked_old t h = elim (cases_eq t s) [
-    | inl e ↦ ap (λ (i : ℕ). get_or (set ms s true) i false) e ∙ marked_new
-    | inr ne ↦ get_or-set_other ms s t true false ne ∙ h
-  ]
-
-  marked_was : (t : ℕ) → Marked (set ms s true) t → (t ≡ s) ⊎ Marked ms t
-  marked_was t h = elim (cases_eq t s) [ inl e ↦ inl e | inr ne ↦ inr (sym (get_or-set_other ms s t true false ne) ∙ h) ]
-
-module _ (g : Geometry) (v : View) (ms : List Bool) (ws : List ℕ) (n : ℕ) (sane : Sane g v ms ws n) (s : ℕ) (small : s < 256) (way : Chain g v s) where
-  module _ (free : get_or ms s false ≡ false) where
-    in_marks : s < length ms
-    in_marks = let e = sane.marks in omega arith
-
-    room : n < length ws
-    room = let h = ticks_room ms s in_marks free in let a = sane.marks in let b = sane.room in let d = sane.count in omega arith
-
-    front : (i : ℕ) → i < n → get_or (set ws n s) i 0 ≡ get_or ws i 0
-    front i h = get_or-set_other ws n i s 0 (λ e. omega arith)
-
-    last : get_or (set ws n s) n 0 ≡ s
-    last = get_or-set_same ws n s 0 room
-
-    new : Onward g v ms ws n (set ms s true) (set ws n s) (n + 1)
-    new = record {
-      sane = record {
-        marks = length-set ms s true ∙ sane.marks;
-        room = length-set ws n s ∙ sane.room;
-        count = ap (λ (k : ℕ). k + 1) sane.count ∙ sym (ticks_set ms s in_marks free);
-        listed = λ t h. elim (marked_was ms s in_marks t h) [
-          | inl e ↦ (n, omega arith, last ∙ sym e)
-          | inr old ↦ (let q = sane.listed t old in (q.0, (let z = q.1 in omega arith), front q.0 q.1 ∙ q.2))
-        ];
-        chained = λ i h. elim (cases_eq i n) [
-          | inl e ↦ subst (Chain g v) (sym (ap (λ (j : ℕ). get_or (set ws n s) j 0) e ∙ last)) way
-          | inr ne ↦ subst (Chain g v) (sym (front i (omega arith))) (sane.chained i (omega arith))
-        ];
-      };
-      grew = record { more = marked_old ms s in_marks; longer = omega arith; front = front };
-    }
-
-  pub entered : (r : ℕ) (ms' : List Bool) (ws' : List ℕ) → Entered s n r ms ms' ws ws' → Onward g v ms ws n ms' ws' r × Marked ms' s
-  entered r ms' ws' (inl (e, er, em, ew)) = rw (er, em, ew) (record { sane = sane; grew = grew_none ms ws n }, e)
-  entered r ms' ws' (inr (e, er, em, ew)) = rw (er, em, ew) (new e, marked_new ms s (in_marks e))
+module _ (g : Geometry) (v : View) (w w' : Work) (at : SlotNo) (chained : Chained g v w) (small : at.0 < 256) (way : Chain g v at.0) where
+  pub entered : Entered at w w' → Onward g v w w' × Marked w'.marks at.0
+  entered (inl (e, et, em, eq, eh)) = (
+    record {
+      chained = λ i h. subst (Chain g v) (ap (λ (ss : List SlotNo). queued ss i) (sym eq)) (chained i (omega (arith, et, h)));
+      grew = record { more = λ t h. ap (λ (ms : List Bool). get_or ms t false) em ∙ h; longer = omega (arith, et); front = λ i h. ap (λ (ss : List SlotNo). queued ss i) eq; head = eh };
+    },
+    ap (λ (ms : List Bool). get_or ms at.0 false) em ∙ e,
+  )
+  entered (inr (free, et, em, eq, eh)) =
+      let in_marks : at.0 < length w.marks = omega (arith, w.slots) in
+      let room : w.tail < length w.queue = omega (arith, w.room, queue_room w.marks w.tail at.0 w.slots w.counted small free) in
+      let front = λ (i : ℕ) (h : i < w.tail). ap (λ (ss : List SlotNo). queued ss i) eq ∙ queued_old w.queue w.tail at i h in
+      let last : queued w'.queue w.tail ≡ at.0 = ap (λ (ss : List SlotNo). queued ss w.tail) eq ∙ queued_new w.queue w.tail at room in (
+        record {
+          chained = λ i h. elim (cases_eq i w.tail) [
+            | inl e ↦ subst (Chain g v) (sym (ap (queued w'.queue) e ∙ last)) way
+            | inr ne ↦ (let low : i < w.tail = omega (arith, et, h) in subst (Chain g v) (sym (front i low)) (chained i low))
+          ];
+          grew = record { more = λ t h. ap (λ (ms : List Bool). get_or ms t false) em ∙ marked_old w.marks at.0 in_marks t h; longer = omega (arith, et); front = front; head = eh };
+        },
+        ap (λ (ms : List Bool). get_or ms at.0 false) em ∙ marked_new w.marks at.0 in_marks,
+      )
 
 -- ---- after reads
 
@@ -90,25 +68,21 @@ module _ (P : Shown → Type 0) (m k : Model) (s : Still m k) where
   pub moved_back : P k.shown → P m.shown
   moved_back h = subst P s.kept.shown h
 
-pub sane_moved : (z : Geometry) (m k : Model) (ms : List Bool) (ws : List ℕ) (n : ℕ) → Still m k → Sane z (seen z m.shown) ms ws n → Sane z (seen z k.shown) ms ws n
-sane_moved z m k ms ws n s h = moved (λ (sh : Shown). Sane z (seen z sh) ms ws n) m k s h
+pub onward_none : (g : Geometry) (v : View) (w : Work) → Chained g v w → Onward g v w w
+onward_none g v w h = record { chained = h; grew = grew_none w }
 
-pub onward_none : (g : Geometry) (v : View) (ms : List Bool) (ws : List ℕ) (n : ℕ) → Sane g v ms ws n → Onward g v ms ws n ms ws n
-onward_none g v ms ws n h = record { sane = h; grew = grew_none ms ws n }
-
-pub onward_then : (z : Geometry) (m k : Model) (ms : List Bool) (ws : List ℕ) (n : ℕ) (ms' : List Bool) (ws' : List ℕ) (n' : ℕ) (ms'' : List Bool) (ws'' : List ℕ) (n'' : ℕ) →
-    Still m k → Onward z (seen z m.shown) ms ws n ms' ws' n' → Onward z (seen z k.shown) ms' ws' n' ms'' ws'' n'' → Onward z (seen z m.shown) ms ws n ms'' ws'' n''
-onward_then z m k ms ws n ms' ws' n' ms'' ws'' n'' s p q = record {
-  sane = moved_back (λ (sh : Shown). Sane z (seen z sh) ms'' ws'' n'') m k s q.sane;
-  grew = grew_then ms ws n ms' ws' n' ms'' ws'' n'' p.grew q.grew;
+pub onward_then : (z : Geometry) (m k : Model) (w x y : Work) → Still m k → Onward z (seen z m.shown) w x → Onward z (seen z k.shown) x y → Onward z (seen z m.shown) w y
+onward_then z m k w x y s p q = record {
+  chained = moved_back (λ (sh : Shown). Chained z (seen z sh) y) m k s q.chained;
+  grew = grew_then w x y p.grew q.grew;
 }
 
 -- the work of a callee
-pub worked_then : (g : CardGeometry) (r : Result ℕ Fault) (Q Q' : List Bool → Type 0) (m k n : Model) (ms : List Bool) (ws : List ℕ) (t : ℕ) (ms' : List Bool) (ws' : List ℕ) →
-    Still m k → (Q ms' → Q' ms') → Worked g r Q k n ms ws t ms' ws' → Worked g r Q' m n ms ws t ms' ws'
-worked_then g r Q Q' m k n ms ws t ms' ws' s q h =
-    says_then g r (λ (n' : ℕ). Onward (sizes g) (shows g k) ms ws t ms' ws' n' × Q ms') (λ (n' : ℕ). Onward (sizes g) (shows g m) ms ws t ms' ws' n' × Q' ms') m k n s
-    (λ n' w. (moved_back (λ (sh : Shown). Onward (sizes g) (seen (sizes g) sh) ms ws t ms' ws' n') m k s w.0, q w.1)) h
+pub worked_then : (g : CardGeometry) (r : Result (Unit {0}) Fault) (Q Q' : List Bool → Type 0) (m k n : Model) (w w' : Work) →
+    Still m k → (Q w'.marks → Q' w'.marks) → Worked g r Q k n w w' → Worked g r Q' m n w w'
+worked_then g r Q Q' m k n w w' s q h =
+    says_then g r (λ _. Onward (sizes g) (shows g k) w w' × Q w'.marks) (λ _. Onward (sizes g) (shows g m) w w' × Q' w'.marks) m k n s
+    (λ _ x. (moved_back (λ (sh : Shown). Onward (sizes g) (seen (sizes g) sh) w w') m k s x.0, q x.1)) h
 
 -- ---- entries and leaves
 
@@ -169,38 +143,37 @@ module _ (g : Geometry) (v : View) (s : ℕ) where
       let own : f ≡ handle s r.identity = handle_true f (handle s r.identity) (and_from _ _ (eq-eqb f.slot.0 s fs) (eq-eqb f.identity.0 r.identity (sym fit.same))) in
       subst (λ (h : Handle). LeavesDone g v h r (count r) ms) (sym own) done k l.below l.fine p l.inside n c l.here (sym (ap (agrees g v f) l.here) ∙ l.agreed)
 
--- ---- the start and the end of the work
+-- ---- the work as a whole
 
-none_marked : (n t : ℕ) → get_or (replicate n false) t false ≡ false
-none_marked zero t = refl
-none_marked (suc n) zero = refl
-none_marked (suc n) (suc t) = none_marked n t
+pub begun : (g : Geometry) (v : View) (w x : Work) → w.tail ≡ 0 → w.head ≡ 0 → Entered (record { 0 = 0 }) w x → Underway g v x
+begun g v w x et eh h =
+    let q = entered g v w x (record { 0 = 0 }) (λ i l. absurd (omega arith)) (omega arith) top h in
+    record { chained = q.0.chained; root = q.1; done = λ i l. absurd (omega (arith, q.0.grew.head)) }
 
-start : (g : Geometry) (v : View) (ws : List ℕ) → length ws ≡ 256 → Sane g v (replicate 256 false) ws 0
-start g v ws l = record {
-  marks = length-replicate 256 false;
-  room = l;
-  count = sym (ticks_none 256);
-  listed = λ t h. clash (sym (none_marked 256 t) ∙ h);
-  chained = λ i h. absurd (omega arith);
-}
+pub few : (w : Work) → w.tail ≤ 256
+few w = omega (arith, ticks_few w.marks, w.slots, w.counted)
 
-pub begun : (g : Geometry) (v : View) (r : ℕ) (ms : List Bool) (ws : List ℕ) → Entered 0 0 r (replicate 256 false) ms (replicate 256 0) ws → Sane g v ms ws r × Marked ms 0
-begun g v r ms ws h =
-    let q = entered g v (replicate 256 false) (replicate 256 0) 0 (start g v (replicate 256 0) (length-replicate {A = ℕ} 256 0)) 0 (omega arith) top r ms ws h in
-    (q.0.sane, q.1)
+-- one slot is handed out
+module _ (z : Geometry) (w x : Work) (s : SlotNo) (out : Handed (Some s) w x) where
+  same_queue : (i : ℕ) → queued x.queue i ≡ queued w.queue i
+  same_queue i = ap (λ (ss : List SlotNo). queued ss i) out.1
 
--- the work fits the array
-pub sane_few : (g : Geometry) (v : View) (ms : List Bool) (ws : List ℕ) (n : ℕ) → Sane g v ms ws n → n ≤ 256
-sane_few g v ms ws n s = let a = s.count in let b = ticks_few ms in let d = s.marks in omega arith
+  -- and its children are marked
+  pub next_done : (m k : Model) (y : Work) → Still m k → Underway z (seen z m.shown) w → Onward z (seen z k.shown) x y → Done z (seen z k.shown) s.0 y.marks → Underway z (seen z m.shown) y
+  next_done m k y st u on now = record {
+    chained = moved_back (λ (sh : Shown). Chained z (seen z sh) y) m k st on.chained;
+    root = more 0 u.root;
+    done = λ i l f c kk p n fs snd. elim (cases_eq i w.head) [
+      | inl e ↦ moved_back (λ (sh : Shown). Done z (seen z sh) s.0 y.marks) m k st now f c kk p n (fs ∙ ap (queued y.queue) e ∙ front w.head out.3.0 ∙ sym out.3.1) snd
+      | inr ne ↦ (let low : i < w.head = omega (arith, on.grew.head, out.3.2) in more c.slot.0 (u.done i low f c kk p n (fs ∙ front i (omega (arith, out.3.0))) snd))
+    ];
+  }
+    where
+      more : (t : ℕ) → Marked w.marks t → Marked y.marks t
+      more t h = on.grew.more t (ap (λ (ms : List Bool). get_or ms t false) out.0 ∙ h)
 
--- one more folder done
-pub done_more : (z : Geometry) (m k : Model) (ms ms' : List Bool) (ws ws' : List ℕ) (n n' h : ℕ) → Still m k → h < n → Grew ms ws n ms' ws' n' →
-    ((i : ℕ) → i < h → Done z (seen z m.shown) (get_or ws i 0) ms) → Done z (seen z k.shown) (get_or ws h 0) ms' → (i : ℕ) → i < h + 1 → Done z (seen z m.shown) (get_or ws' i 0) ms'
-done_more z m k ms ms' ws ws' n n' h s low grew done here i l f c kk p x fs snd = elim (cases_eq i h) [
-  | inl e ↦ moved_back (λ (sh : Shown). Done z (seen z sh) (get_or ws h 0) ms') m k s here f c kk p x (fs ∙ ap (λ (j : ℕ). get_or ws' j 0) e ∙ grew.front h low) snd
-  | inr ne ↦ grew.more c.slot.0 (done i (omega arith) f c kk p x (fs ∙ grew.front i (omega arith)) snd)
-]
+      front : (i : ℕ) → i < w.tail → queued y.queue i ≡ queued w.queue i
+      front i l = on.grew.front i (omega (arith, out.2)) ∙ same_queue i
 
 -- a chain is what it is to be reached
 module _ (g : Geometry) (v : View) where
@@ -224,20 +197,21 @@ module _ (g : Geometry) (v : View) where
     | inr w ↦ (let q = parent_parts g v s w.0 w.1 in below {f = q.slot.parent} {c = handle s q.slot.identity} (subst (Chain g v) (sym q.is) (climbs_chain m w.0 w.2)) q.sound)
   ]
 
-pub all_marked : (g : Geometry) (v : View) (ms : List Bool) (ws : List ℕ) (n h : ℕ) → Sane g v ms ws n → n ≤ h → Marked ms 0 → ((i : ℕ) → i < h → Done g v (get_or ws i 0) ms) → MarksReached g v ms
-all_marked g v ms ws n h sane over zero_marked done s = go (get_or ms s false) (reached g v s) refl refl
+pub all_marked : (g : Geometry) (v : View) (w : Work) → Underway g v w → w.head ≡ w.tail → MarksReached g v w.marks
+all_marked g v w u out s = go (get_or w.marks s false) (reached g v s) refl refl
   where
-    there : Marked ms s → reached g v s ≡ true
-    there k = (let q = sane.listed s k in chain_reached g v s (subst (Chain g v) q.2 (sane.chained q.0 q.1)))
+    there : Marked w.marks s → reached g v s ≡ true
+    there k = ∥∥₁_elim (w.listed s k) (Bool-set _ _) (λ (q : InQueue w.queue w.tail s). chain_reached g v s (subst (Chain g v) q.is (u.chained q.place q.low)))
 
-    complete : (t : ℕ) → Chain g v t → Marked ms t
-    complete t top = zero_marked
-    complete t (below {f} {c} {k} {p} {n = x} way snd) = (let q = sane.listed f.slot.0 (complete f.slot.0 way) in done q.0 (let a = q.1 in omega arith) f c k p x (sym q.2) snd)
+    complete : (t : ℕ) → Chain g v t → Marked w.marks t
+    complete t top = u.root
+    complete t (below {f} {c} {k} {p} {n = x} way snd) =
+        ∥∥₁_elim (w.listed f.slot.0 (complete f.slot.0 way)) (Bool-set _ _) (λ (q : InQueue w.queue w.tail f.slot.0). u.done q.place (omega (arith, q.low, out)) f c k p x (sym q.is) snd)
 
-    here : reached g v s ≡ true → Marked ms s
+    here : reached g v s ≡ true → Marked w.marks s
     here r = complete s (climbs_chain g v g.slots s r)
 
-    go : (a b : Bool) → get_or ms s false ≡ a → reached g v s ≡ b → get_or ms s false ≡ reached g v s
+    go : (a b : Bool) → get_or w.marks s false ≡ a → reached g v s ≡ b → get_or w.marks s false ≡ reached g v s
     go true b ea eb = ea ∙ sym (there ea)
     go false true ea eb = clash (sym ea ∙ here eb)
     go false false ea eb = ea ∙ sym eb

@@ -1,21 +1,24 @@
 -- The rows of a folder's entries, cell by cell and leaf by leaf.
-use Rattle.std.proofs.Common.{◌≡◌, ℕ, zero, suc, ◌+◌, ◌<◌, ◌≤◌, Bool, true, false, cond, ◌&&◌, eqb, ltb, List, [], ◌∷◌, ◌++◌, map, length, get_or, take, Some, None, Option, sym, refl, ap, ◌∙◌, subst, inl, inr, add-one, arith}
+use Rattle.std.proofs.Common.{◌≡◌, ℕ, zero, suc, ◌+◌, ◌<◌, ◌≤◌, Bool, true, false, cond, ltb, List, [], ◌∷◌, ◌++◌, map, length, get_or, take, Option, sym, refl, ap, ◌∙◌, inl, inr, add-one, arith}
 use Rattle.std.proofs.lemmas.List.{append_assoc, append-nil, map-append, take_more, take_all}
-use Rattle.std.proofs.lemmas.Bool.{cond-true, cond-false, and_parts}
+use Rattle.std.proofs.lemmas.Bool.{cond-true, and_parts}
 use Rattle.base.specs.declared.owner.Kind.TheVariants.{File, Folder}
 use Rattle.base.specs.declared.owner.Handle.{Handle}
-use Rattle.layout.specs.Format.{Geometry, Name, Cell, Slot, Entry, entry, entry_of, back}
+use Rattle.layout.specs.Format.{Geometry, Name, Cell, Slot, entry, entry_of, back}
 use Rattle.layout.specs.Head.{cells}
-use Rattle.rule.specs.Agree.{View, Place, those, from, some_is, given, slot_at, same_handle, agrees, sound, good, names, number, count, cells_in, places_of, places_over}
+use Rattle.rule.specs.Agree.{View, Place, those, from, agrees, sound, good, names, number, count, cells_in, places_of, places_over}
 use Rattle.rule.specs.Meaning.{Body}
 use Rattle.rule.specs.Reading.{entry_line}
-use Rattle.rule.proofs.Steps.{clash_none, names_true}
-use Rattle.listing.specs.Lines as lines
+use Rattle.rule.proofs.Steps.{names_true}
 use Rattle.listing.specs.declared.line.EntryLine.{EntryLine as EntryRow}
-use Rattle.walk.specs.Copies.{child_slot, Holds}
-use Rattle.walk.specs.declared.leaf.LeafCopy.{LeafCopy}
+use Rattle.std.specs.Option.{option_map, is_some}
+use Rattle.std.proofs.lemmas.Grind.{common_steps}
+use Rattle.walk.specs.Copies.{copied, child_slot, Holds, folder_bytes}
+use Rattle.walk.proofs.Finding.{leaf_cells as copied_cells}
+use Rattle.walk.specs.declared.slot.SlotCopy.{SlotCopy}
+use Rattle.walk.specs.declared.leaf_copy.LeafCopy.{LeafCopy}
 use Rattle.walk.specs.Finding.{leaf_places}
-use Rattle.tours.specs.Lists.{entry_row, entry_lines, entry_rows, cell_rows}
+use Rattle.tours.specs.Lists.{Adds, entry_row, entry_lines, entry_rows, cell_rows}
 
 pub those_append : {A : Type 0} (p : A → Bool) (xs ys : List A) → those p (xs ++ ys) ≡ those p xs ++ those p ys
 those_append p [] ys = refl
@@ -36,50 +39,19 @@ pub no_kind : {A : Type 0} → File ≡ Folder → A
 no_kind e = let z : ◌≡◌ {A = ℕ} 0 1 = cc in absurd (omega arith)
 
 module _ (g : Geometry) (v : View) (f : Handle) where
-  -- an entry is sound exactly when its child's slot is there
-  pub child_there : (n : Name) (c : Handle) (r : Slot) → child_slot g v f c ≡ Some r → agrees g v f (entry n c) ≡ true
-  child_there n c r e = go (slot_at g v c.slot.0) e
-    where
-      go : (o : Option Slot) → given o (λ r. cond (eqb r.identity c.identity.0 && same_handle r.parent f) (Some r) None) ≡ Some r → some_is o (λ r. eqb r.identity c.identity.0 && same_handle r.parent f) ≡ true
-      go None e = clash_none e
-      go (Some s) e = test (eqb s.identity c.identity.0 && same_handle s.parent f) e
-        where
-          test : (b : Bool) → cond b (Some s) None ≡ Some r → b ≡ true
-          test true e = refl
-          test false e = clash_none e
+  -- an entry is sound where its child's slot is there
+  pub child_there : (n : Name) (c : Handle) (o : Option SlotCopy) → option_map copied o ≡ child_slot g v f c → is_some o ≡ true → agrees g v f (entry n c) ≡ true
+  child_there n c o e there = grind (arith, common_steps)
 
-  pub child_missing : (n : Name) (c : Handle) → child_slot g v f c ≡ None → agrees g v f (entry n c) ≡ false
-  child_missing n c e = go (slot_at g v c.slot.0) e
-    where
-      go : (o : Option Slot) → given o (λ r. cond (eqb r.identity c.identity.0 && same_handle r.parent f) (Some r) None) ≡ None → some_is o (λ r. eqb r.identity c.identity.0 && same_handle r.parent f) ≡ false
-      go None e = refl
-      go (Some s) e = test (eqb s.identity c.identity.0 && same_handle s.parent f) e
-        where
-          test : (b : Bool) → cond b (Some s) None ≡ None → b ≡ false
-          test true e = clash_none (sym e)
-          test false e = refl
+  -- where it is not there, nothing is added
+  pub unsound : (e : Cell) (n : Name) (c : Handle) (o : Option SlotCopy) (count : ℕ) (lines : List EntryRow) → option_map copied o ≡ child_slot g v f c → is_some o ≡ false → entry n c ≡ entry_of g e →
+      Adds 1 (cell_rows g v f (e ∷ [])) count lines count lines
+  unsound e n c o count lines k missing q = grind (arith, common_steps)
 
-  abbrev rows_by : Entry → List EntryRow
-  rows_by x = map (λ (e : Entry). entry_row (entry_line e)) (cond (agrees g v f x) (x ∷ []) [])
-
-  cell_row : (e : Cell) → cell_rows g v f (e ∷ []) ≡ rows_by (entry_of g e)
-  cell_row e = go (agrees g v f (entry_of g e))
-    where
-      go : (b : Bool) → map (λ (e : Cell). entry_row (entry_line (entry_of g e))) (cond b (e ∷ []) []) ≡ map (λ (e : Entry). entry_row (entry_line e)) (cond b (entry_of g e ∷ []) [])
-      go true = refl
-      go false = refl
-
-  pub cell_sound : (e : Cell) (n : Name) (c : Handle) (r : Slot) → entry n c ≡ entry_of g e → child_slot g v f c ≡ Some r → lines.entry_line n c ∷ [] ≡ cell_rows g v f (e ∷ [])
-  cell_sound e n c r q k =
-      sym (cell_row e ∙ ap rows_by (sym q) ∙ ap (map (λ (e : Entry). entry_row (entry_line e))) (cond-true (agrees g v f (entry n c)) (entry n c ∷ []) [] (child_there n c r k)))
-
-  pub cell_unsound : (e : Cell) (n : Name) (c : Handle) → entry n c ≡ entry_of g e → child_slot g v f c ≡ None → [] ≡ cell_rows g v f (e ∷ [])
-  cell_unsound e n c q k =
-      sym (cell_row e ∙ ap rows_by (sym q) ∙ ap (map (λ (e : Entry). entry_row (entry_line e))) (cond-false (agrees g v f (entry n c)) (entry n c ∷ []) [] (child_missing n c k)))
-
-  pub rows_more : (es : List Cell) (i : ℕ) → i < length es → cell_rows g v f (take i es) ++ cell_rows g v f (get_or es i [] ∷ []) ≡ cell_rows g v f (take (i + 1) es)
-  rows_more es i l =
-      sym (ap (cell_rows g v f) (take_more es i [] l)
+  pub rows_more : (es : List Cell) (i : ℕ) (e : Cell) → i < length es → e ≡ get_or es i [] → cell_rows g v f (take i es) ++ cell_rows g v f (e ∷ []) ≡ cell_rows g v f (take (i + 1) es)
+  rows_more es i e l is =
+      ap (λ (x : Cell). cell_rows g v f (take i es) ++ cell_rows g v f (x ∷ [])) is
+      ∙ sym (ap (cell_rows g v f) (take_more es i [] l)
       ∙ ap (map (λ (e : Cell). entry_row (entry_line (entry_of g e)))) (those_append (λ e. agrees g v f (entry_of g e)) (take i es) (get_or es i [] ∷ []))
       ∙ map-append (λ (e : Cell). entry_row (entry_line (entry_of g e))) (those (λ e. agrees g v f (entry_of g e)) (take i es)) (those (λ e. agrees g v f (entry_of g e)) (get_or es i [] ∷ [])))
 
@@ -123,18 +95,12 @@ module _ (g : Geometry) (v : View) (f : Handle) where
     body_of k e = names_true r.kind (back f k) (v (number r k)) (and_parts (ltb k (count r)) (names r.kind (back f k) (v (number r k))) e).1
 
     -- the cells of a good leaf, as copied
-    pub leaf_cells : (k : ℕ) (l : LeafCopy) → r.kind ≡ Folder → good v f r k ≡ true → Holds l (v (number r k)) → (l.used ≡ 480) × (cells (take 480 l.bytes) ≡ cells_in (v (number r k)))
-    leaf_cells k l d e h = go (body_of k e)
-      where
-        go : Body r.kind (back f k) (v (number r k)) → (l.used ≡ 480) × (cells (take 480 l.bytes) ≡ cells_in (v (number r k)))
-        go (inl (x, file, is)) = no_kind (sym file ∙ d)
-        go (inr (es, folder, is)) =
-            let w = subst (Holds l) is h in
-            (w.0, ap (λ (u : ℕ). cells (take u l.bytes)) (sym w.0) ∙ w.1 ∙ ap cells_in (sym is))
+    pub leaf_cells : (k : ℕ) (l : LeafCopy) (cs : List Cell) → cs ≡ cells (folder_bytes l) → r.kind ≡ Folder → good v f r k ≡ true → Holds l (v (number r k)) → cs ≡ cells_in (v (number r k))
+    leaf_cells k l cs q d e h = q ∙ copied_cells v f r k l d e h
 
-    pub leaf_good : (k : ℕ) (l : LeafCopy) → r.kind ≡ Folder → good v f r k ≡ true → Holds l (v (number r k)) → cell_rows g v f (cells (take 480 l.bytes)) ≡ entry_rows g v f (leaf_places v f r k)
-    leaf_good k l d e h =
-        ap (cell_rows g v f) (leaf_cells k l d e h).1
+    pub leaf_good : (k : ℕ) (l : LeafCopy) (cs : List Cell) → cs ≡ cells (folder_bytes l) → r.kind ≡ Folder → good v f r k ≡ true → Holds l (v (number r k)) → cell_rows g v f cs ≡ entry_rows g v f (leaf_places v f r k)
+    leaf_good k l cs q d e h =
+        ap (cell_rows g v f) (leaf_cells k l cs q d e h)
         ∙ sym (ap (entry_rows g v f) (cond-true (good v f r k) _ _ e) ∙ place_rows k 0 (cells_in (v (number r k))))
 
     -- a file has no entries

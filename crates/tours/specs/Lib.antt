@@ -1,3 +1,4 @@
 pub mod Lists
 pub mod Damage
+pub mod Ticks
 pub mod Marks

@@ -9,6 +9,7 @@ use Rattle.rule.specs.Agree.{View, Place, those, agrees, sound}
 use Rattle.rule.specs.Reading.{EntryLine, entry_line}
 use Rattle.listing.specs.Lines.{Sofar}
 use Rattle.listing.specs.Lines as lines
+use Rattle.listing.specs.declared.list.Lines.{Lines}
 use Rattle.listing.specs.declared.line.EntryLine.{EntryLine as EntryRow}
 use Rattle.walk.specs.Still.{Says}
 
@@ -17,9 +18,9 @@ pub record Adds {L : Type 0} (most : ℕ) (items : List L) (count : ℕ) (lines 
   pub few : length items ≤ most
   pub onto : (before done : List L) → length done + length items < 2 ^ 64 → Sofar before done count lines → Sofar before (done ++ items) count' lines'
 
--- only reads were made, and these items were added
-abbrev pub Lists : {L : Type 0} → CardGeometry → Result ℕ Fault → ℕ → List L → Model → Model → ℕ → List L → List L → Type 0
-Lists g r most items m n count lines lines' = Says g r (λ count'. Adds most items count lines count' lines') m n
+-- only reads were made, and these items were added to the list
+abbrev pub Lists : {L : Type 0} → CardGeometry → Result (Unit {0}) Fault → ℕ → List L → Model → Model → Lines L → Lines L → Type 0
+Lists g r most items m n old new = Says g r (λ _. Adds most items old.count old.lines.now new.count new.lines.now) m n
 
 -- a line of the rule, as the caller gets it
 abbrev pub entry_row : EntryLine → EntryRow

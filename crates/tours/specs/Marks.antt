@@ -1,5 +1,6 @@
 -- Marks of what is reached, made by a work list from the root.
-use Rattle.std.specs.Prelude.{◌≡◌, ℕ, suc, ◌+◌, ◌<◌, ◌≤◌, Bool, true, false, ◌⊎◌, List, [], ◌∷◌, length, Result, slice_index, slice_index_or, slice_set}
+use Rattle.std.specs.Prelude.{◌≡◌, ℕ, ◌+◌, ◌<◌, ◌≤◌, Bool, true, false, ◌⊎◌, List, [], length, Option, Result, MatchOption, slice_index_or, slice_set}
+use Rattle.base.specs.declared.number.SlotNo.{SlotNo}
 use Rattle.base.specs.declared.owner.Kind.TheVariants.{Folder}
 use Rattle.base.specs.declared.owner.Handle.{Handle}
 use Rattle.device.specs.Model.{Model}
@@ -10,10 +11,8 @@ use Rattle.layout.specs.declared.geometry.Geometry.{Geometry as CardGeometry}
 use Rattle.rule.specs.Agree.{View, agrees, good, number, cells_in, reached}
 use Rattle.rule.specs.Meaning.{Fits, Sound}
 use Rattle.walk.specs.Still.{Says, shows}
-
--- the mark of slot s is set
-abbrev pub Marked : List Bool → ℕ → Type 0
-Marked ms s = slice_index_or ms s false ≡ true
+use Rattle.tours.specs.Ticks.{Marked, queued}
+use Rattle.tours.specs.declared.work.Work.{Work}
 
 -- the marks say which slots are reached; a slot that the card has not is not marked
 abbrev pub MarksReached : Geometry → View → List Bool → Type 0
@@ -24,40 +23,37 @@ pub data Chain (g : Geometry) (v : View) : ℕ → Type 0 where
   top : Chain g v 0
   below : {f c : Handle} {k p : ℕ} {n : Name} → Chain g v f.slot.0 → Sound g v f k p n c → Chain g v c.slot.0
 
--- how many marks are set
-unfoldable pub ticks : List Bool → ℕ
-ticks [] = 0
-ticks (true ∷ bs) = suc (ticks bs)
-ticks (false ∷ bs) = ticks bs
-
 -- slot s was marked and put to the work, unless it had been
-abbrev pub Entered : ℕ → ℕ → ℕ → List Bool → List Bool → List ℕ → List ℕ → Type 0
-Entered s n r ms ms' ws ws' =
-    ((slice_index_or ms s false ≡ true) × (r ≡ n) × (ms' ≡ ms) × (ws' ≡ ws))
-    ⊎ ((slice_index_or ms s false ≡ false) × (r ≡ n + 1) × (ms' ≡ slice_set ms s true) × (ws' ≡ slice_set ws n s))
+abbrev pub Entered : SlotNo → Work → Work → Type 0
+Entered s w w' =
+    (Marked w.marks s.0 × (w'.tail ≡ w.tail) × (w'.marks ≡ w.marks) × (w'.queue ≡ w.queue) × (w'.head ≡ w.head))
+    ⊎ ((slice_index_or w.marks s.0 false ≡ false) × (w'.tail ≡ w.tail + 1) × (w'.marks ≡ slice_set w.marks s.0 true) × (w'.queue ≡ slice_set w.queue w.tail s) × (w'.head ≡ w.head))
 
--- the first n of the work are the marked slots, and a chain leads to each
-pub record Sane (g : Geometry) (v : View) (ms : List Bool) (ws : List ℕ) (n : ℕ) : Type 0 where
-  pub marks : length ms ≡ 256
-  pub room : length ws ≡ 256
-  pub count : n ≡ ticks ms
-  pub listed : (t : ℕ) → Marked ms t → (i : ℕ) × (i < n) × (slice_index ws i ≡ t)
-  pub chained : (i : ℕ) → i < n → Chain g v (slice_index ws i)
+-- the next of the work was handed out, or there was none
+abbrev pub Handed : Option SlotNo → Work → Work → Type 0
+Handed r w w' =
+    (w'.marks ≡ w.marks) × (w'.queue ≡ w.queue) × (w'.tail ≡ w.tail)
+    × MatchOption r ((w.head ≡ w.tail) × (w'.head ≡ w.head)) (λ s. (w.head < w.tail) × (s.0 ≡ queued w.queue w.head) × (w'.head ≡ w.head + 1))
 
--- what was marked and put to the work stays
-pub record Grew (ms : List Bool) (ws : List ℕ) (n : ℕ) (ms' : List Bool) (ws' : List ℕ) (n' : ℕ) : Type 0 where
-  pub more : (t : ℕ) → Marked ms t → Marked ms' t
-  pub longer : n ≤ n'
-  pub front : (i : ℕ) → i < n → slice_index ws' i ≡ slice_index ws i
+-- a chain leads to each slot of the work
+abbrev pub Chained : Geometry → View → Work → Type 0
+Chained g v w = (i : ℕ) → i < w.tail → Chain g v (queued w.queue i)
+
+-- what was marked and put to the work stays, and no more was handed out
+pub record Grew (w w' : Work) : Type 0 where
+  pub more : (t : ℕ) → Marked w.marks t → Marked w'.marks t
+  pub longer : w.tail ≤ w'.tail
+  pub front : (i : ℕ) → i < w.tail → queued w'.queue i ≡ queued w.queue i
+  pub head : w'.head ≡ w.head
 
 -- from one state of the work to the next
-pub record Onward (g : Geometry) (v : View) (ms : List Bool) (ws : List ℕ) (n : ℕ) (ms' : List Bool) (ws' : List ℕ) (n' : ℕ) : Type 0 where
-  pub sane : Sane g v ms' ws' n'
-  pub grew : Grew ms ws n ms' ws' n'
+pub record Onward (g : Geometry) (v : View) (w w' : Work) : Type 0 where
+  pub chained : Chained g v w'
+  pub grew : Grew w w'
 
 -- a part of the work was done, after which Q holds of the marks
-abbrev pub Worked : CardGeometry → Result ℕ Fault → (List Bool → Type 0) → Model → Model → List Bool → List ℕ → ℕ → List Bool → List ℕ → Type 0
-Worked g r Q m k ms ws n ms' ws' = Says g r (λ n'. Onward (sizes g) (shows g m) ms ws n ms' ws' n' × Q ms') m k
+abbrev pub Worked : CardGeometry → Result (Unit {0}) Fault → (List Bool → Type 0) → Model → Model → Work → Work → Type 0
+Worked g r Q m k w w' = Says g r (λ _. Onward (sizes g) (shows g m) w w' × Q w'.marks) m k
 
 -- P holds of the slot of the child, if the entry in this cell is sound
 abbrev pub ForChild : Geometry → View → Handle → Cell → (ℕ → Type 0) → Type 0
@@ -89,6 +85,12 @@ LeavesDone g v f r k ms = (l : ℕ) → l < k → LeafDone g v f r l ms
 -- all children of the folder in slot s are marked
 abbrev pub Done : Geometry → View → ℕ → List Bool → Type 0
 Done g v s ms = (f c : Handle) (k p : ℕ) (n : Name) → f.slot.0 ≡ s → Sound g v f k p n c → Marked ms c.slot.0
+
+-- the root is marked, and so are all children of the slots that were handed out
+pub record Underway (g : Geometry) (v : View) (w : Work) : Type 0 where
+  pub chained : Chained g v w
+  pub root : Marked w.marks 0
+  pub done : (i : ℕ) → i < w.head → Done g v (queued w.queue i) w.marks
 
 -- a folder to which a chain leads
 pub record Open (g : Geometry) (v : View) (f : Handle) (r : Slot) : Type 0 where

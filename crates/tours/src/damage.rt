@@ -1,10 +1,10 @@
 // The leaves that are not good of the slots that are marked, as lines.
-ghost use Rattle.std.specs.Prelude.{[], ◌∷◌, if◌then◌else◌};
+ghost use Rattle.std.specs.Prelude.{◌≡◌, [], ◌∷◌};
 ghost use Rattle.layout.specs.Sizes.{sizes};
 ghost use Rattle.listing.specs.Lines.{Sofar};
 ghost use Rattle.walk.specs.Still.{Says, shows};
 ghost use Rattle.walk.specs.Copies.{copied};
-ghost use Rattle.tours.specs.Lists.{Adds, Lists};
+ghost use Rattle.tours.specs.Lists.{Lists};
 ghost use Rattle.tours.specs.Damage.{damage_rows, slot_rows, leaf_rows, leaves_rows};
 
 use base::number::{LeafNo, SlotNo};
@@ -13,51 +13,45 @@ use device::Device;
 use device::fault::Fault;
 use layout::geometry::Geometry;
 use listing::line::DamageLine;
-use listing::list::put_line;
+use listing::list::Lines;
 use walk::leaf::read_leaf;
-use walk::slot::{SlotCopy, read_slot};
+use walk::node::Node;
+use walk::slot::read_slot;
 
 // Adds a leaf, unless it is good.
 fn check_leaf<D: Device>(
     device: &mut D,
     g: &Geometry,
-    owner: Handle,
-    slot: &SlotCopy,
+    node: &Node,
     leaf: LeafNo,
-    lines: &mut [DamageLine],
-    count: usize,
-) -> Result<usize, Fault>
-    ensures { Lists g.now result 1 (leaf_rows (shows g.now (D.Device.model device.old)) owner (copied slot.now) (leaf.0 ∷ [])) (D.Device.model device.old) (D.Device.model device.new) count lines.old lines.new }
+    lines: &mut Lines<'_, DamageLine>,
+) -> Result<(), Fault>
+    ensures added { Lists g.now result 1 (leaf_rows (shows g.now (D.Device.model device.old)) node.now.handle (copied node.now.slot) (leaf.0 ∷ [])) (D.Device.model device.old) (D.Device.model device.new) lines.old lines.new }
+    ensures same { lines.new.lines.ghost_name ≡ lines.old.lines.ghost_name }
 {
-    let copy = read_leaf(device, g, owner, slot, leaf)?;
-    match copy {
-        Some(_) => Ok(count),
-        None => Ok(put_line(
-            lines,
-            count,
-            DamageLine {
-                slot: owner.slot,
-                leaf,
-            },
-        )),
+    if read_leaf(device, g, node, leaf)?.is_none() {
+        lines.add(DamageLine {
+            slot: node.handle.slot,
+            leaf,
+        });
     }
+    Ok(())
 }
 
-// Adds the leaves of a slot that are not good.
+// Adds the leaves that are not good.
 fn check_leaves<D: Device>(
     device: &mut D,
     g: &Geometry,
-    owner: Handle,
-    slot: &SlotCopy,
-    lines: &mut [DamageLine],
-    mut count: usize,
-) -> Result<usize, Fault>
-    ensures { Lists g.now result 65535 (leaves_rows (shows g.now (D.Device.model device.old)) owner (copied slot.now)) (D.Device.model device.old) (D.Device.model device.new) count lines.old lines.new }
+    node: &Node,
+    lines: &mut Lines<'_, DamageLine>,
+) -> Result<(), Fault>
+    ensures added { Lists g.now result 65535 (leaves_rows (shows g.now (D.Device.model device.old)) node.now.handle (copied node.now.slot)) (D.Device.model device.old) (D.Device.model device.new) lines.old lines.new }
+    ensures same { lines.new.lines.ghost_name ≡ lines.old.lines.ghost_name }
 {
-    for k in 0..slot.count {
-        count = check_leaf(device, g, owner, slot, LeafNo(k), lines, count)?;
+    for k in 0..node.slot.count {
+        check_leaf(device, g, node, LeafNo(k), lines)?;
     }
-    Ok(count)
+    Ok(())
 }
 
 // The same, if the slot is well formed.
@@ -65,39 +59,19 @@ fn check_slot<D: Device>(
     device: &mut D,
     g: &Geometry,
     at: SlotNo,
-    lines: &mut [DamageLine],
-    count: usize,
-) -> Result<usize, Fault>
-    ensures { Lists g.now result 65535 (slot_rows (sizes g.now) (shows g.now (D.Device.model device.old)) at.0) (D.Device.model device.old) (D.Device.model device.new) count lines.old lines.new }
+    lines: &mut Lines<'_, DamageLine>,
+) -> Result<(), Fault>
+    ensures added { Lists g.now result 65535 (slot_rows (sizes g.now) (shows g.now (D.Device.model device.old)) at.0) (D.Device.model device.old) (D.Device.model device.new) lines.old lines.new }
+    ensures same { lines.new.lines.ghost_name ≡ lines.old.lines.ghost_name }
 {
-    let slot = read_slot(device, g, at)?;
-    match slot {
-        Some(s) => {
-            let owner = Handle {
-                slot: at,
-                identity: s.identity,
-            };
-            check_leaves(device, g, owner, &s, lines, count)
-        }
-        None => Ok(count),
-    }
-}
-
-// The same, if the slot is marked.
-fn check_marked<D: Device>(
-    device: &mut D,
-    g: &Geometry,
-    at: SlotNo,
-    marked: bool,
-    lines: &mut [DamageLine],
-    count: usize,
-) -> Result<usize, Fault>
-    ensures { Lists g.now result 65535 (if marked then slot_rows (sizes g.now) (shows g.now (D.Device.model device.old)) at.0 else []) (D.Device.model device.old) (D.Device.model device.new) count lines.old lines.new }
-{
-    if marked {
-        return check_slot(device, g, at, lines, count);
-    }
-    Ok(count)
+    let Some(slot) = read_slot(device, g, at)? else {
+        return Ok(());
+    };
+    let handle = Handle {
+        slot: at,
+        identity: slot.identity,
+    };
+    check_leaves(device, g, &Node { handle, slot }, lines)
 }
 
 // Fills the lines with the leaves of marked slots that are not good, by slot, then leaf, and answers their whole number.
@@ -109,9 +83,12 @@ pub fn damage_lines<D: Device>(
 ) -> Result<usize, Fault>
     ensures { Says g.now result (λ n. Sofar lines.old (damage_rows (sizes g.now) (shows g.now (D.Device.model device.old)) marks.now) n lines.new) (D.Device.model device.old) (D.Device.model device.new) }
 {
-    let mut count = 0;
+    let mut list = Lines::over(lines);
+    // Kept: the slot's number is handed on, and the mark is read by it; next to the marks it would be counted again.
     for s in 0..g.slots {
-        count = check_marked(device, g, SlotNo(s), marks[s as usize], lines, count)?;
+        if marks[s as usize] {
+            check_slot(device, g, SlotNo(s), &mut list)?;
+        }
     }
-    Ok(count)
+    Ok(list.count())
 }

@@ -4,3 +4,4 @@
 pub mod damage;
 pub mod list;
 pub mod marks;
+mod work;

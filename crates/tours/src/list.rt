@@ -14,104 +14,82 @@ use base::number::LeafNo;
 use base::owner::{Handle, Kind};
 use device::Device;
 use device::fault::Fault;
-use entries::entry::{Cell, cell_bytes, parse_cell};
+use entries::entry::{Cell, parse_cell};
 use layout::geometry::Geometry;
 use listing::line::EntryLine;
-use listing::list::put_line;
+use listing::list::Lines;
 use walk::child::read_child;
 use walk::leaf::read_leaf;
-use walk::slot::SlotCopy;
+use walk::node::Node;
 
-fn put_entry(lines: &mut [EntryLine], count: usize, name: &[u8], child: &Handle) -> usize
+fn put_entry(lines: &mut Lines<'_, EntryLine>, name: &[u8], child: &Handle)
     requires { length name.now ≤ 24 }
-    ensures { Adds 1 (entry_line name.now child.now ∷ []) count lines.old result lines.new }
+    ensures added { Adds 1 (entry_line name.now child.now ∷ []) lines.old.count lines.old.lines.now lines.new.count lines.new.lines.now }
+    ensures same { lines.new.lines.ghost_name ≡ lines.old.lines.ghost_name }
 {
-    match EntryLine::new(name, child) {
-        Some(line) => put_line(lines, count, line),
-        None => count,
+    if let Some(line) = EntryLine::new(name, child) {
+        lines.add(line);
     }
 }
 
 // Adds the entry in a cell of the folder's leaf, if it is sound.
+// Kept: the device and the geometry are two parameters: a struct that lends the device needs in each method a clause more, that it lends the same one.
 fn list_cell<D: Device>(
     device: &mut D,
     g: &Geometry,
     folder: &Handle,
     bytes: &[u8],
-    lines: &mut [EntryLine],
-    count: usize,
-) -> Result<usize, Fault>
+    lines: &mut Lines<'_, EntryLine>,
+) -> Result<(), Fault>
     requires { length bytes.now ≡ 32 }
-    ensures { Lists g.now result 1 (cell_rows (sizes g.now) (shows g.now (D.Device.model device.old)) folder.now (bytes.now ∷ [])) (D.Device.model device.old) (D.Device.model device.new) count lines.old lines.new }
+    ensures added { Lists g.now result 1 (cell_rows (sizes g.now) (shows g.now (D.Device.model device.old)) folder.now (bytes.now ∷ [])) (D.Device.model device.old) (D.Device.model device.new) lines.old lines.new }
+    ensures same { lines.new.lines.ghost_name ≡ lines.old.lines.ghost_name }
 {
-    match parse_cell(g, bytes) {
-        Cell::Used(e) => {
-            let child = read_child(device, g, folder, &e.child)?;
-            match child {
-                Some(_) => Ok(put_entry(lines, count, e.name, &e.child)),
-                None => Ok(count),
-            }
-        }
-        Cell::Blank => Ok(count),
-        Cell::IllFormed => Ok(count),
+    let Cell::Used(entry) = parse_cell(g, bytes) else {
+        return Ok(());
+    };
+    if read_child(device, g, folder, &entry.child)?.is_some() {
+        put_entry(lines, entry.name, &entry.child);
     }
+    Ok(())
 }
 
-// The same at a place of the leaf, which has 480 bytes.
-fn list_place<D: Device>(
-    device: &mut D,
-    g: &Geometry,
-    folder: &Handle,
-    payload: &[u8],
-    place: usize,
-    lines: &mut [EntryLine],
-    count: usize,
-) -> Result<usize, Fault>
-    requires { (length payload.now ≡ 480) × (place < 15) }
-    ensures { Lists g.now result 1 (cell_rows (sizes g.now) (shows g.now (D.Device.model device.old)) folder.now (slice_index_or (cells payload.now) place [] ∷ [])) (D.Device.model device.old) (D.Device.model device.new) count lines.old lines.new }
-{
-    match cell_bytes(payload, place) {
-        Some(bytes) => list_cell(device, g, folder, bytes, lines, count),
-        None => Ok(count),
-    }
-}
-
+// Kept: this step and the next stand here and in `marks`, three lines each: what a step leaves differs (rows added here,
+// slots chained there), and a trait for both would need the laws of either as ghost members.
 // Adds the sound entries of a good leaf.
 fn list_cells<D: Device>(
     device: &mut D,
     g: &Geometry,
     folder: &Handle,
     payload: &[u8],
-    lines: &mut [EntryLine],
-    mut count: usize,
-) -> Result<usize, Fault>
+    lines: &mut Lines<'_, EntryLine>,
+) -> Result<(), Fault>
     requires { length payload.now ≡ 480 }
-    ensures { Lists g.now result 15 (cell_rows (sizes g.now) (shows g.now (D.Device.model device.old)) folder.now (cells payload.now)) (D.Device.model device.old) (D.Device.model device.new) count lines.old lines.new }
+    ensures added { Lists g.now result 15 (cell_rows (sizes g.now) (shows g.now (D.Device.model device.old)) folder.now (cells payload.now)) (D.Device.model device.old) (D.Device.model device.new) lines.old lines.new }
+    ensures same { lines.new.lines.ghost_name ≡ lines.old.lines.ghost_name }
 {
-    for place in 0..15usize {
-        count = list_place(device, g, folder, payload, place, lines, count)?;
+    for bytes in payload.chunks_exact(32) {
+        list_cell(device, g, folder, bytes, lines)?;
     }
-    Ok(count)
+    Ok(())
 }
 
 // Adds the sound entries of a leaf, if the leaf is good.
 fn list_leaf<D: Device>(
     device: &mut D,
     g: &Geometry,
-    folder: &Handle,
-    slot: &SlotCopy,
+    folder: &Node,
     leaf: LeafNo,
-    lines: &mut [EntryLine],
-    count: usize,
-) -> Result<usize, Fault>
-    requires { slot.now.kind ≡ Folder }
-    ensures { Lists g.now result 15 (entry_rows (sizes g.now) (shows g.now (D.Device.model device.old)) folder.now (leaf_places (shows g.now (D.Device.model device.old)) folder.now (copied slot.now) leaf.0)) (D.Device.model device.old) (D.Device.model device.new) count lines.old lines.new }
+    lines: &mut Lines<'_, EntryLine>,
+) -> Result<(), Fault>
+    requires { folder.now.slot.kind ≡ Folder }
+    ensures added { Lists g.now result 15 (entry_rows (sizes g.now) (shows g.now (D.Device.model device.old)) folder.now.handle (leaf_places (shows g.now (D.Device.model device.old)) folder.now.handle (copied folder.now.slot) leaf.0)) (D.Device.model device.old) (D.Device.model device.new) lines.old lines.new }
+    ensures same { lines.new.lines.ghost_name ≡ lines.old.lines.ghost_name }
 {
-    let copy = read_leaf(device, g, *folder, slot, leaf)?;
-    match copy {
-        Some(l) => list_cells(device, g, folder, &l.bytes[0..480], lines, count),
-        None => Ok(count),
-    }
+    let Some(copy) = read_leaf(device, g, folder, leaf)? else {
+        return Ok(());
+    };
+    list_cells(device, g, &folder.handle, copy.folder_bytes(), lines)
 }
 
 // Fills the lines with the sound entries of a folder, by leaf, then place, and answers their whole number; a file has none.
@@ -119,19 +97,17 @@ fn list_leaf<D: Device>(
 pub fn list_entries<D: Device>(
     device: &mut D,
     g: &Geometry,
-    folder: Handle,
-    slot: &SlotCopy,
+    folder: &Node,
     lines: &mut [EntryLine],
 ) -> Result<usize, Fault>
-    ensures { Says g.now result (λ n. Sofar lines.old (entry_rows (sizes g.now) (shows g.now (D.Device.model device.old)) folder (places (shows g.now (D.Device.model device.old)) folder (copied slot.now))) n lines.new) (D.Device.model device.old) (D.Device.model device.new) }
+    ensures { Says g.now result (λ n. Sofar lines.old (entry_rows (sizes g.now) (shows g.now (D.Device.model device.old)) folder.now.handle (places (shows g.now (D.Device.model device.old)) folder.now.handle (copied folder.now.slot))) n lines.new) (D.Device.model device.old) (D.Device.model device.new) }
 {
-    match slot.kind {
-        Kind::File => return Ok(0),
-        Kind::Folder => {}
+    if folder.slot.kind == Kind::File {
+        return Ok(0);
     }
-    let mut count = 0;
-    for k in 0..slot.count {
-        count = list_leaf(device, g, &folder, slot, LeafNo(k), lines, count)?;
+    let mut list = Lines::over(lines);
+    for k in 0..folder.slot.count {
+        list_leaf(device, g, folder, LeafNo(k), &mut list)?;
     }
-    Ok(count)
+    Ok(list.count())
 }

@@ -1,5 +1,6 @@
 -- What is copied out of a block.
-use Rattle.std.proofs.Common.{◌≡◌, ℕ, ◌+◌, ◌-◌, ◌*◌, ◌/◌, ◌<◌, ◌≤◌, Bool, true, false, cond, ◌&&◌, eqb, ltb, leb, ◌⊎◌, List, ◌++◌, length, get_or, Some, None, Option, sym, refl, ap, ◌∙◌, subst, inl, inr, arith, MatchOption}
+use Rattle.std.proofs.Common.{◌≡◌, ℕ, zero, suc, ◌+◌, ◌-◌, ◌*◌, ◌/◌, ◌<◌, ◌≤◌, Bool, true, false, cond, ◌&&◌, eqb, ltb, leb, ◌⊎◌, List, ◌∷◌, ◌++◌, length, take, drop, get_or, Some, None, Option, sym, refl, ap, ◌∙◌, subst, inl, inr, arith, MatchOption}
+use Rattle.std.specs.Simd.{first_chunks}
 use Rattle.std.proofs.lemmas.List.{get_or_past, take_at, length-append}
 use Rattle.std.proofs.lemmas.Bool.{cases_lt, and_right, and_from, and_parts, lt-ltb, ltb-true, ltb-false, leb-false, and_cases}
 use Rattle.base.specs.declared.owner.Kind.{Kind}
@@ -7,12 +8,14 @@ use Rattle.base.specs.declared.owner.Kind.TheVariants.{File, Folder}
 use Rattle.base.specs.declared.owner.Handle.{Handle}
 use Rattle.base.specs.declared.owner.Back.{Back}
 use Rattle.device.specs.Model.{Block}
-use Rattle.layout.specs.Format.{Geometry, Slot, Content, blank, ill_formed, back, le16, numbers_of, body_number, slot_of, slot_fits, cover_of, in_limits, cover_region, slot_region, body_region, beyond, by_kind, parse}
+use Rattle.layout.specs.Format.{Geometry, Slot, Cell, Content, blank, ill_formed, back, cells_of, le16, numbers_of, body_number, slot_of, slot_fits, cover_of, in_limits, cover_region, slot_region, body_region, beyond, by_kind, parse}
 use Rattle.layout.specs.View.{all_numbers, SlotSized}
+use Rattle.layout.specs.Head.{cells}
+use Rattle.layout.proofs.Cells.{cells_take}
 use Rattle.layout.proofs.Numbers.{part_numbers, number_at, length_numbers}
 use Rattle.rule.specs.Agree.{Shown, seen, number, count, names}
 use Rattle.walk.specs.declared.slot.SlotCopy.{SlotCopy}
-use Rattle.walk.specs.declared.leaf.LeafCopy.{LeafCopy}
+use Rattle.walk.specs.declared.leaf_copy.LeafCopy.{LeafCopy}
 use Rattle.walk.specs.Copies.{copied, Holds, LeafIs}
 
 -- the numbers of a slot, copied to the front of a longer row
@@ -23,6 +26,18 @@ front_numbers z w s =
 
 pub numbers_copied : (z x w : List ℕ) → x ≡ z → SlotSized z → numbers_of (length z / 2) (x ++ w) ≡ all_numbers z
 numbers_copied z x w e s = ap (λ (y : List ℕ). numbers_of (length z / 2) (y ++ w)) e ∙ front_numbers z w s
+
+-- the front of a leaf, cut into cells
+chunks_are : (n : ℕ) (z : List ℕ) → first_chunks 32 n z ≡ cells_of n z
+chunks_are zero z = refl
+chunks_are (suc n) z = ap (λ (cs : List Cell). take 32 z ∷ cs) (chunks_are n (drop 32 z))
+
+all_cells : (z : List ℕ) → cells_of 15 z ≡ cells z
+unfolding cells
+all_cells z = refl
+
+pub chunks_cells : (z : List ℕ) → first_chunks 32 15 z ≡ cells (take 480 z)
+chunks_cells z = chunks_are 15 z ∙ all_cells z ∙ sym (cells_take z)
 
 -- past the count there is no number
 pub number_past : (s : SlotCopy) (k : ℕ) → s.count ≤ k → number (copied s) k ≡ 0

@@ -1,23 +1,36 @@
 -- The search for a name, cell by cell and leaf by leaf.
-use Rattle.std.proofs.Common.{◌≡◌, ℕ, suc, ◌+◌, ◌-◌, ◌<◌, ◌≤◌, Bool, true, false, cond, ◌&&◌, eqb, ltb, List, [], ◌∷◌, ◌++◌, length, get_or, take, drop, Some, None, Decides, Option, sym, refl, ap, ◌∙◌, subst, inl, inr, add-one, arith}
-use Rattle.std.proofs.lemmas.List.{drop_more, drop_all}
+use lib.Pointwise.{pointwise}
+use Rattle.std.proofs.Common.{◌≡◌, ℕ, suc, ◌+◌, ◌-◌, ◌<◌, Bool, true, false, cond, not, ◌&&◌, eqb, ltb, List, [], ◌∷◌, ◌++◌, take, Some, None, Decides, Option, is_some, sym, refl, ap, ◌∙◌, subst, inl, inr, add-one, arith}
 use Rattle.std.proofs.lemmas.Bool.{cases_Bool, cond-true, cond-false, and_from, and_parts}
 use Rattle.base.specs.declared.owner.Kind.TheVariants.{File, Folder}
 use Rattle.base.specs.declared.owner.Handle.{Handle}
-use Rattle.layout.specs.Format.{Geometry, Name, Cell, Slot, Content, Entry, entry, entry_of, back}
+use Rattle.layout.specs.Format.{Geometry, Name, Cell, Slot, Entry, entry, entry_of, back}
 use Rattle.rule.specs.Agree.{Shown, View, seen, Place, first, has_name, agrees, good, number, cells_in, places_of, places_over, from, some_is, given, slot_at, same_handle, same_bytes, names, count}
 use Rattle.rule.specs.Meaning.{Body}
 use Rattle.rule.proofs.Steps.{clash, clash_none, bytes_true, bytes_refl, first_append, cond_some, names_true}
 use Rattle.layout.specs.Head.{cells}
-use Rattle.walk.specs.Copies.{child_slot, front, Holds, LeafIs}
-use Rattle.walk.specs.declared.leaf.LeafCopy.{LeafCopy}
-use Rattle.walk.specs.declared.node.Node.{Node}
+use Rattle.walk.specs.Copies.{child_slot, folder_bytes, Holds, LeafIs}
+use Rattle.walk.specs.declared.leaf_copy.LeafCopy.{LeafCopy}
 use Rattle.walk.specs.declared.entry.Found.{Found}
-use Rattle.walk.specs.Finding.{hits, Leads, CellIs, FoundAt, FirstIs, first_hit, leaf_places}
+use Rattle.walk.specs.Finding.{hits, Leads, FirstIs, first_hit, leaf_places}
 
 pub bytes_decided : (a b : List ℕ) (r : Bool) → Decides r (a ≡ b) → r ≡ same_bytes a b
 bytes_decided a b true d = sym (subst (λ (x : List ℕ). same_bytes a x ≡ true) (d.0 refl) (bytes_refl a))
 bytes_decided a b false d = elim (cases_Bool (same_bytes a b)) [ inl t ↦ clash (d.1 (bytes_true a b t)) | inr t ↦ sym t ]
+
+pointwise_bytes : (a b : List ℕ) → pointwise eqb a b ≡ same_bytes a b
+pointwise_bytes [] [] = refl
+pointwise_bytes [] (y ∷ ys) = refl
+pointwise_bytes (x ∷ xs) [] = refl
+pointwise_bytes (x ∷ xs) (y ∷ ys) = ap (λ (b : Bool). eqb x y && b) (pointwise_bytes xs ys)
+
+-- names that `!=` does not tell apart
+pub same_from_ne : (a b : List ℕ) → false ≡ not (pointwise eqb a b) → same_bytes a b ≡ true
+same_from_ne a b e = go (pointwise eqb a b) e (pointwise_bytes a b)
+  where
+    go : (p : Bool) → false ≡ not p → p ≡ same_bytes a b → same_bytes a b ≡ true
+    go true e q = sym q
+    go false e q = clash e
 
 -- one list after another
 pub first_past : {A : Type 0} (p : A → Bool) (xs ys : List A) → first p xs ≡ None → first p (xs ++ ys) ≡ first p ys
@@ -33,6 +46,17 @@ first_here p xs ys a e = elim (first_append p xs ys) [ inl s ↦ s ∙ e | inr s
 
 no_kind : {A : Type 0} → File ≡ Folder → A
 no_kind e = let z : ◌≡◌ {A = ℕ} 0 1 = cc in absurd (omega arith)
+
+-- the cells of a good leaf of the folder f, whose slot is r, as copied
+pub leaf_cells : (v : View) (f : Handle) (r : Slot) (k : ℕ) (l : LeafCopy) → r.kind ≡ Folder → good v f r k ≡ true → Holds l (v (number r k)) → cells (folder_bytes l) ≡ cells_in (v (number r k))
+leaf_cells v f r k l d e h =
+    go (names_true r.kind (back f k) (v (number r k)) (and_parts (ltb k (count r)) (names r.kind (back f k) (v (number r k))) e).1)
+  where
+    go : Body r.kind (back f k) (v (number r k)) → cells (folder_bytes l) ≡ cells_in (v (number r k))
+    go (inl (x, file, is)) = no_kind (sym file ∙ d)
+    go (inr (es, folder, is)) =
+        let w = subst (Holds l) is h in
+        ap (λ (u : ℕ). cells (take u l.bytes)) (sym w.0) ∙ w.1 ∙ ap cells_in (sym is)
 
 module _ (g : Geometry) (v : View) (f : Handle) (n : Name) where
   -- the child's slot is there exactly when the entry agrees
@@ -50,40 +74,10 @@ module _ (g : Geometry) (v : View) (f : Handle) (n : Name) where
     child = k;
   }
 
-  -- cell by cell: k is the leaf, i the place
-  module _ (k : ℕ) (cs : List Cell) (i : ℕ) where
-    abbrev here : Place
-    here = record { leaf = k; place = i; cell = get_or cs i [] }
-
-    at_more : i < length cs → first_hit g v f n (places_of k i (drop i cs)) ≡ cond (hits g v f n (get_or cs i [])) (Some here) (first_hit g v f n (places_of k (i + 1) (drop (i + 1) cs)))
-    at_more l = ap (λ (es : List Cell). first_hit g v f n (places_of k i es)) (drop_more cs i [] l) ∙ ap (λ (j : ℕ). cond (hits g v f n (get_or cs i [])) (Some here) (first_hit g v f n (places_of k j (drop (i + 1) cs)))) (sym (add-one i))
-
-    pub cells_more : i < length cs → hits g v f n (get_or cs i []) ≡ false → first_hit g v f n (places_of k i (drop i cs)) ≡ first_hit g v f n (places_of k (i + 1) (drop (i + 1) cs))
-    cells_more l e = at_more l ∙ cond-false (hits g v f n (get_or cs i [])) _ _ e
-
-    pub cells_found : i < length cs → hits g v f n (get_or cs i []) ≡ true → first_hit g v f n (places_of k i (drop i cs)) ≡ Some here
-    cells_found l e = at_more l ∙ cond-true (hits g v f n (get_or cs i [])) _ _ e
-
-    pub cells_all : length cs ≤ i → first_hit g v f n (places_of k i (drop i cs)) ≡ None
-    cells_all l = ap (λ (es : List Cell). first_hit g v f n (places_of k i es)) (drop_all i cs l)
-
   -- leaf by leaf, of the folder whose slot is r
   module _ (r : Slot) where
     pub leaf_bad : (k : ℕ) → good v f r k ≡ false → first_hit g v f n (leaf_places v f r k) ≡ None
     leaf_bad k e = ap (first_hit g v f n) (cond-false (good v f r k) (places_of k 0 (cells_in (v (number r k)))) [] e)
-
-    -- the cells of a good leaf, as copied
-    leaf_good : (k : ℕ) (l : LeafCopy) → r.kind ≡ Folder → good v f r k ≡ true → Holds l (v (number r k)) →
-        (l.used ≡ 480) × (leaf_places v f r k ≡ places_of k 0 (cells (front l)))
-    leaf_good k l d e h =
-        let b = names_true r.kind (back f k) (v (number r k)) (and_parts (ltb k (count r)) (names r.kind (back f k) (v (number r k))) e).1 in
-        go b
-      where
-        go : Body r.kind (back f k) (v (number r k)) → (l.used ≡ 480) × (leaf_places v f r k ≡ places_of k 0 (cells (front l)))
-        go (inl (x, file, is)) = no_kind (sym file ∙ d)
-        go (inr (es, folder, is)) =
-            let w = subst (Holds l) is h in
-            (w.0, cond-true (good v f r k) _ _ e ∙ ap (λ (c : Content). places_of k 0 (cells_in c)) is ∙ ap (places_of k 0) (sym w.1))
 
     over_more : (k c : ℕ) → k < c → places_over v f r (from k (c - k)) ≡ leaf_places v f r k ++ places_over v f r (from (k + 1) (c - (k + 1)))
     over_more k c l =
@@ -98,9 +92,6 @@ module _ (g : Geometry) (v : View) (f : Handle) (n : Name) where
     pub leaves_found : (k c : ℕ) (q : Place) → k < c → first_hit g v f n (leaf_places v f r k) ≡ Some q →
         first_hit g v f n (places_over v f r (from k (c - k))) ≡ Some q
     leaves_found k c q l e = ap (first_hit g v f n) (over_more k c l) ∙ first_here (λ (q : Place). hits g v f n q.cell) (leaf_places v f r k) (places_over v f r (from (k + 1) (c - (k + 1)))) q e
-
-    pub leaves_all : (k c : ℕ) → c ≤ k → first_hit g v f n (places_over v f r (from k (c - k))) ≡ None
-    leaves_all k c l = let m : c - k ≡ 0 = omega arith in ap (λ (m : ℕ). first_hit g v f n (places_over v f r (from k m))) m
 
     -- a file has no entries
     pub file_none : r.kind ≡ File → (ks : List ℕ) → first_hit g v f n (places_over v f r ks) ≡ None
@@ -117,31 +108,20 @@ module _ (g : Geometry) (v : View) (f : Handle) (n : Name) where
 
 -- a step of each search, at the answer of what it calls
 module _ (g : Geometry) (v : View) (f : Handle) (n : Name) (s : Option Place) where
-  module _ (k i : ℕ) (cs : List Cell) (inv : s ≡ first_hit g v f n (places_of k i (drop i cs))) (l : i < length cs) where
-    pub place_found : (o : Option Node) (c : Node) → o ≡ Some c → CellIs g v f n (get_or cs i []) o →
-        (q : Place) × (s ≡ Some q) × FoundAt g v f n q (record { leaf = record { 0 = k }; place = i; child = c.handle; slot = c.slot })
-    place_found o c e w =
-        let x = subst (CellIs g v f n (get_or cs i [])) e w in
-        (record { leaf = k; place = i; cell = get_or cs i [] }, inv ∙ cells_found g v f n k cs i l x.hit, record { leaf = refl; place = refl; leads = x })
-
-    pub place_next : (o : Option Node) → o ≡ None → CellIs g v f n (get_or cs i []) o → s ≡ first_hit g v f n (places_of k (i + 1) (drop (i + 1) cs))
-    place_next o e w = inv ∙ cells_more g v f n k cs i l (subst (CellIs g v f n (get_or cs i [])) e w)
-
   module _ (r : Slot) (k c : ℕ) (inv : s ≡ first_hit g v f n (places_over v f r (from k (c - k)))) (l : k < c) where
-    pub leaf_found : (o : Option Found) (x : Found) → o ≡ Some x → FirstIs g v f n (first_hit g v f n (leaf_places v f r k)) o → (q : Place) × (s ≡ Some q) × FoundAt g v f n q x
-    leaf_found o x e w =
-        let y = subst (FirstIs g v f n (first_hit g v f n (leaf_places v f r k))) e w in
-        (y.0, inv ∙ leaves_found g v f n r k c y.0 l y.1, y.2)
+    pub leaf_found : (o : Option Found) → true ≡ is_some o → FirstIs g v f n (first_hit g v f n (leaf_places v f r k)) o → FirstIs g v f n s o
+    leaf_found None e w = clash (sym e)
+    leaf_found (Some x) e w = (w.0, inv ∙ leaves_found g v f n r k c w.0 l w.1, w.2)
 
-    pub leaf_next : (o : Option Found) → o ≡ None → FirstIs g v f n (first_hit g v f n (leaf_places v f r k)) o → s ≡ first_hit g v f n (places_over v f r (from (k + 1) (c - (k + 1))))
-    leaf_next o e w = inv ∙ leaves_more g v f n r k c l (subst (FirstIs g v f n (first_hit g v f n (leaf_places v f r k))) e w)
+    pub leaf_next : (o : Option Found) → false ≡ is_some o → FirstIs g v f n (first_hit g v f n (leaf_places v f r k)) o → s ≡ first_hit g v f n (places_over v f r (from (k + 1) (c - (k + 1))))
+    leaf_next None e w = inv ∙ leaves_more g v f n r k c l w
+    leaf_next (Some x) e w = clash e
 
 -- the search in a good leaf, read after `was` was shown
-pub leaf_says : (g : Geometry) (was shown : Shown) (f : Handle) (n : Name) (r : Slot) (k : ℕ) (c : Option LeafCopy) (l : LeafCopy) → shown ≡ was → r.kind ≡ Folder → c ≡ Some l → LeafIs (seen g was) f r k c → (o : Option Found) →
-    FirstIs g (seen g shown) f n (first_hit g (seen g shown) f n (places_of k 0 (cells (take 480 l.bytes)))) o → FirstIs g (seen g was) f n (first_hit g (seen g was) f n (leaf_places (seen g was) f r k)) o
-leaf_says g was shown f n r k c l e d is w o x =
+pub leaf_says : (g : Geometry) (was shown : Shown) (f : Handle) (n : Name) (r : Slot) (k : ℕ) (c : Option LeafCopy) (l : LeafCopy) (cs : List Cell) → cs ≡ cells (folder_bytes l) → shown ≡ was → r.kind ≡ Folder → c ≡ Some l → LeafIs (seen g was) f r k c → (o : Option Found) →
+    FirstIs g (seen g shown) f n (first_hit g (seen g shown) f n (places_of k 0 cs)) o → FirstIs g (seen g was) f n (first_hit g (seen g was) f n (leaf_places (seen g was) f r k)) o
+leaf_says g was shown f n r k c l cs q e d is w o x =
     let y = subst (LeafIs (seen g was) f r k) is w in
-    let p = leaf_good g (seen g was) f n r k l d y.0 y.1 in
-    let same = p.1 ∙ ap (λ (u : ℕ). places_of k 0 (cells (take u l.bytes))) p.0 in
+    let same = cond-true (good (seen g was) f r k) _ _ y.0 ∙ ap (places_of k 0) (sym (q ∙ leaf_cells (seen g was) f r k l d y.0 y.1)) in
     subst (λ (qs : List Place). FirstIs g (seen g was) f n (first_hit g (seen g was) f n qs) o) (sym same)
-    (subst (λ (s : Shown). FirstIs g (seen g s) f n (first_hit g (seen g s) f n (places_of k 0 (cells (take 480 l.bytes)))) o) e x)
+    (subst (λ (s : Shown). FirstIs g (seen g s) f n (first_hit g (seen g s) f n (places_of k 0 cs)) o) e x)

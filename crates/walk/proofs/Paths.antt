@@ -1,47 +1,25 @@
 -- A path, name by name.
-use Rattle.std.proofs.Common.{◌≡◌, ℕ, suc, ◌+◌, ◌-◌, ◌<◌, ◌≤◌, Bool, true, false, cond, eqb, leb, List, [], ◌∷◌, length, get_or, take, drop, Ok, Err, Result, sym, refl, ap, ◌∙◌, subst, inl, inr, add-one, arith, MatchResult}
-use Rattle.std.proofs.lemmas.List.{drop_more, drop_all, drop-drop, length-drop}
-use Rattle.std.proofs.lemmas.Bool.{cases_lt, cond-true, cond-false, eq-eqb, ne_eqb, le-leb, lt-leb}
+use Rattle.std.proofs.Common.{◌≡◌, ℕ, suc, ◌+◌, ◌<◌, ◌≤◌, Bool, true, false, cond, eqb, leb, List, [], ◌∷◌, length, take, drop, Ok, Err, Some, None, Option, Result, sym, refl, ap, ◌∙◌, subst, inl, inr, add-one, arith, MatchResult}
+use denote.Ref.{Bor}
+use Rattle.std.specs.Slice.{IsGetRangeResult}
+use Rattle.std.proofs.lemmas.List.{take_rest}
+use Rattle.std.proofs.lemmas.Bool.{cases_lt, cond-true, cond-false, le-leb, lt-leb}
 use Rattle.base.specs.declared.owner.Handle.{Handle}
 use Rattle.base.specs.declared.refusal.Refusal.{Refusal}
-use Rattle.base.specs.declared.refusal.Refusal.TheVariants.{BadName}
 use Rattle.base.specs.declared.refusal.PathRefusal.{PathRefusal}
 use Rattle.device.specs.Model.{Model}
-use Rattle.layout.specs.Format.{Name, Geometry, Slot, good_name}
+use Rattle.layout.specs.Format.{Name, Geometry, Slot}
 use Rattle.layout.specs.declared.geometry.Geometry.{Geometry as CardGeometry}
 use Rattle.rule.specs.Agree.{Shown, View, seen, root}
 use Rattle.rule.specs.Check.{Answer}
 use Rattle.rule.specs.Reading.{fits, step, named, longer, parted, components, at_component, all_named, walk}
-use Rattle.walk.specs.Paths.{name_end, names_from}
+use Rattle.walk.specs.Paths.{name_end, names_in}
 use Rattle.walk.specs.Still.{Still, Gives, PathGives, PathRefused}
 use Rattle.walk.specs.Stepping.{entered, Enters}
 use Rattle.walk.specs.Copies.{copied}
 use Rattle.walk.specs.declared.entry.Found.{Found}
 use Rattle.walk.proofs.Stills.{still_then, failed_then}
-use Rattle.walk.proofs.Stepping.{bind_ok, bind_err, check_ok, check_err, step_ok, step_err}
-
--- ---- the end of a name
-
-module _ (p : List ℕ) (i : ℕ) (l : i < length p) where
-  end_more : name_end (drop i p) ≡ cond (eqb (get_or p i 0) 47) 0 (suc (name_end (drop (i + 1) p)))
-  end_more = ap name_end (drop_more p i 0 l)
-
-  pub end_here : get_or p i 0 ≡ 47 → name_end (drop i p) ≡ 0
-  end_here e = end_more ∙ cond-true (eqb (get_or p i 0) 47) _ _ (eq-eqb (get_or p i 0) 47 e)
-
-  pub end_later : (get_or p i 0 ≡ 47 → ⊥) → name_end (drop i p) ≡ suc (name_end (drop (i + 1) p))
-  end_later e = end_more ∙ cond-false (eqb (get_or p i 0) 47) _ _ (ne_eqb (get_or p i 0) 47 e)
-
-pub end_past : (p : List ℕ) (i : ℕ) → length p ≤ i → name_end (drop i p) ≡ 0
-end_past p i l = ap name_end (drop_all i p l)
-
-pub end_within : (z : List ℕ) → name_end z ≤ length z
-end_within [] = omega arith
-end_within (x ∷ xs) = go (eqb x 47) (end_within xs)
-  where
-    go : (b : Bool) → name_end xs ≤ length xs → cond b 0 (suc (name_end xs)) ≤ suc (length xs)
-    go true h = omega arith
-    go false h = omega arith
+use Rattle.walk.proofs.Stepping.{bind_ok, bind_err, step_ok, step_err}
 
 -- ---- the names that are left
 
@@ -66,29 +44,35 @@ parted_more (x ∷ xs) = go (eqb x 47) (parted_more xs)
         ap (longer x) h
         ∙ ap (λ (b : Bool). (x ∷ take (name_end xs) xs) ∷ cond b (parted (drop (suc (name_end xs)) xs)) []) (leb_as (suc (name_end xs)) (length xs) (suc (suc (name_end xs))) (suc (length xs)) (λ l. omega arith) (λ l. omega arith))
 
-module _ (p : List ℕ) where
-  pub names_more : (s e : ℕ) → s ≤ length p → e ≡ s + name_end (drop s p) → names_from p s ≡ take (e - s) (drop s p) ∷ names_from p (e + 1)
-  unfolding names_from
-  names_more s e l q =
-      cond-true (leb s (length p)) _ _ (le-leb s (length p) l) ∙ parted_more (drop s p)
-      ∙ ap (λ (i : ℕ). take i (drop s p) ∷ rest_of (drop s p)) (omega arith)
-      ∙ ap (λ (b : Bool). take (e - s) (drop s p) ∷ cond b (parted (drop (suc (name_end (drop s p))) (drop s p))) []) test
-      ∙ ap (λ (z : List ℕ). take (e - s) (drop s p) ∷ cond (leb (e + 1) (length p)) (parted z) []) left
-    where
-      test : leb (suc (name_end (drop s p))) (length (drop s p)) ≡ leb (e + 1) (length p)
-      test = leb_as (suc (name_end (drop s p))) (length (drop s p)) (e + 1) (length p) (λ h. omega (arith, length-drop s p, q, h)) (λ h. omega (arith, length-drop s p, q, h))
+-- the name that comes next, and what is left after its '/'
+pub names_next : (z : List ℕ) (e : ℕ) (o : Option (Bor (List ℕ))) → e ≡ name_end z → IsGetRangeResult z (e + 1) (length z) o → parted z ≡ take e z ∷ names_in o
+names_next z e o q w =
+    parted_more z ∙ ap (λ (ns : List Name). take (name_end z) z ∷ ns) (left o w) ∙ ap (λ (i : ℕ). take i z ∷ names_in o) (sym q)
+  where
+    after : suc (name_end z) ≡ e + 1
+    after = omega (arith, q)
 
-      left : drop (suc (name_end (drop s p))) (drop s p) ≡ drop (e + 1) p
-      left = drop-drop (suc (name_end (drop s p))) s p ∙ ap (λ (i : ℕ). drop i p) (omega (arith, q))
+    left : (o : Option (Bor (List ℕ))) → IsGetRangeResult z (e + 1) (length z) o → rest_of z ≡ names_in o
+    left None w = elim w.0 [
+      | inl l ↦ cond-false (leb (suc (name_end z)) (length z)) _ _ (lt-leb (suc (name_end z)) (length z) (omega (arith, l, q)))
+      | inr l ↦ absurd (omega (arith, l))
+    ]
+    left (Some y) w =
+        cond-true (leb (suc (name_end z)) (length z)) _ _ (le-leb (suc (name_end z)) (length z) (omega (arith, w.0.0, q)))
+        ∙ ap (λ (i : ℕ). parted (drop i z)) after ∙ ap parted (sym (w.0.2 ∙ take_rest z (e + 1)))
 
-  pub names_none : (s : ℕ) → length p < s → names_from p s ≡ []
-  unfolding names_from
-  names_none s l = cond-false (leb s (length p)) _ _ (lt-leb s (length p) l)
+length_longer : (x : ℕ) (ns : List Name) (k : ℕ) → length ns ≤ k → length (longer x ns) ≤ suc k
+length_longer x [] k l = omega arith
+length_longer x (n ∷ ns) k l = omega arith
 
-pub names_all : (p : List ℕ) → 0 < length p → components p ≡ names_from p 0
-unfolding names_from
-names_all [] l = absurd (omega arith)
-names_all (x ∷ xs) l = sym (cond-true (leb 0 (suc (length xs))) _ _ (le-leb 0 (suc (length xs)) (omega arith)))
+-- at most one name more than there are bytes
+pub length_parted : (z : List ℕ) → length (parted z) ≤ suc (length z)
+length_parted [] = omega arith
+length_parted (x ∷ xs) = go (eqb x 47) (length_parted xs)
+  where
+    go : (b : Bool) → length (parted xs) ≤ suc (length xs) → length (cond b ([] ∷ parted xs) (longer x (parted xs))) ≤ suc (suc (length xs))
+    go true l = omega arith
+    go false l = length_longer x (parted xs) (suc (length xs)) l
 
 -- ---- components
 
@@ -99,14 +83,6 @@ component_ok i x a e = ap (at_component i) e
 pub component_err : {A : Type 0} (i : ℕ) (x : Answer A) (r : Refusal) → x ≡ Err r → at_component i x ≡ Err (record { lower = r; component = i })
 unfolding at_component
 component_err i x r e = ap (at_component i) e
-
-pub named_ok : (n : Name) → good_name n ≡ true → named n ≡ Ok tt
-unfolding named
-named_ok n e = check_ok (good_name n) _ e
-
-pub named_err : (n : Name) → good_name n ≡ false → named n ≡ Err (BadName (length n))
-unfolding named
-named_err n e = check_err (good_name n) _ e
 
 pub all_named_ok : (i : ℕ) (n : Name) (ns : List Name) → named n ≡ Ok tt → all_named i (n ∷ ns) ≡ all_named (i + 1) ns
 unfolding all_named
@@ -162,13 +138,13 @@ module _ (g : Geometry) (was shown : Shown) where
         so ∙ ap (walk g (seen g was) i f) is
         ∙ walk_err g (seen g was) i f n more e (ap (at_component i) (step_ok g (seen g was) f n r fit) ∙ subst (λ (s : Shown). at_component i (entered g (seen g s) f n r) ≡ Err e) same q)
 
-    pub walk_in : (a : Found) → Enters g (seen g shown) (entered g (seen g shown) f n r) a → w ≡ walk g (seen g was) (i + 1) a.child more
+    pub walk_in : (a : Found) → Enters g (seen g shown) (entered g (seen g shown) f n r) a → w ≡ walk g (seen g was) (i + 1) a.child.handle more
     walk_in a q =
         so ∙ ap (walk g (seen g was) i f) is
-        ∙ walk_ok g (seen g was) i f a.child n more (step_ok g (seen g was) f n r fit ∙ subst (λ (s : Shown). entered g (seen g s) f n r ≡ Ok a.child) same q.child)
+        ∙ walk_ok g (seen g was) i f a.child.handle n more (step_ok g (seen g was) f n r fit ∙ subst (λ (s : Shown). entered g (seen g s) f n r ≡ Ok a.child.handle) same q.child)
 
-  pub walk_fits : (x : Answer Handle) (a : Found) → shown ≡ was → Enters g (seen g shown) x a → fits g (seen g was) a.child ≡ Ok (copied a.slot)
-  walk_fits x a same q = subst (λ (s : Shown). fits g (seen g s) a.child ≡ Ok (copied a.slot)) same q.slot
+  pub walk_fits : (x : Answer Handle) (a : Found) → shown ≡ was → Enters g (seen g shown) x a → fits g (seen g was) a.child.handle ≡ Ok (copied a.child.slot)
+  walk_fits x a same q = subst (λ (s : Shown). fits g (seen g s) a.child.handle ≡ Ok (copied a.child.slot)) same q.slot
 
 no_ok : {A B E : Type 0} {a : B} {e : E} → Ok a ≡ Err e → A
 no_ok q = let z : ◌≡◌ {A = ℕ} 0 1 = cc in absurd (omega arith)
@@ -186,8 +162,11 @@ step_out g v f n i e q = go (fits g v f) refl q
 -- a root whose slot does not fit stops a walk at component 0
 pub walk_root : (g : Geometry) (v : View) (p : List ℕ) → 0 < length p → (e : PathRefusal) → at_component 0 (fits g v root) ≡ Err e → walk g v 0 root (components p) ≡ Err e
 walk_root g v p l e q =
-    let is = names_all p l ∙ names_more p 0 (0 + name_end (drop 0 p)) (omega arith) refl in
-    ap (walk g v 0 root) is ∙ walk_err g v 0 root _ _ e (step_out g v root _ 0 e q)
+    ap (walk g v 0 root) (names_some p l) ∙ walk_err g v 0 root _ _ e (step_out g v root _ 0 e q)
+  where
+    names_some : (p : List ℕ) → 0 < length p → components p ≡ take (name_end p) p ∷ rest_of p
+    names_some [] l = absurd (omega arith)
+    names_some (x ∷ xs) l = parted_more (x ∷ xs)
 
 -- the whole walk after reads that left what is shown as it was
 pub path_then : (g : CardGeometry) (r : Result Handle PathRefusal) (x y : Result Handle PathRefusal) (m k n : Model) → Still m k → x ≡ y → PathGives g r x (λ h. x ≡ Ok h) k n → PathGives g r y (λ h. y ≡ Ok h) m n

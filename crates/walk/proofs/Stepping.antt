@@ -1,9 +1,11 @@
 -- Handles and steps, one check after another.
 use Rattle.std.proofs.Common.{◌≡◌, Bool, true, false, cond, ◌&&◌, eqb, Some, None, Ok, Err, Option, Result, sym, refl, ap, ◌∙◌, subst, inl, inr}
-use Rattle.std.specs.Option.{option_map}
+use Rattle.std.specs.Option.{option_map, ok_or}
 use Rattle.std.proofs.lemmas.Bool.{eq-eqb, ne_eqb, eqb-true, and_parts}
 use Rattle.base.specs.declared.owner.Kind.{Kind}
-use Rattle.base.specs.declared.owner.Kind.TheVariants.{Folder}
+use denote.Enum.Bare.{sameb}
+use Rattle.base.specs.contracts.owner.Kind.{the_type}
+use Rattle.base.specs.declared.owner.Kind.TheVariants.{File, Folder}
 use Rattle.base.specs.declared.owner.Handle.{Handle}
 use Rattle.base.specs.declared.refusal.Refusal.{Refusal}
 use Rattle.base.specs.declared.refusal.Refusal.TheVariants.{NoSuchHandle, WrongKind, NoSuchName}
@@ -16,7 +18,8 @@ use Rattle.rule.specs.Reading.{fits, kind_is, reading, step, child_of}
 use Rattle.rule.proofs.Steps.{given_some, cond_some}
 use Rattle.walk.specs.Copies.{copied, child_slot}
 use Rattle.walk.specs.Finding.{FirstIs}
-use Rattle.walk.specs.Still.{Still, Refused, Gives}
+use Rattle.layout.specs.Sizes.{sizes}
+use Rattle.walk.specs.Still.{Still, Refused, Gives, shows}
 use Rattle.walk.specs.Stepping.{stepped, entered, Enters}
 use Rattle.walk.specs.declared.entry.Found.{Found}
 use Rattle.walk.specs.declared.slot.SlotCopy.{SlotCopy}
@@ -65,6 +68,13 @@ module _ (g : Geometry) (v : View) (h : Handle) where
     unfolding fits
     fits_none e = bind_err _ _ _ (demand_err _ (NoSuchHandle h.slot) (sym at ∙ ap (option_map copied) e))
 
+-- two kinds are compared as the rule compares them
+pub kinds_same : (a b : Kind) → same_kind a b ≡ sameb the_type a b
+kinds_same File File = refl
+kinds_same File Folder = refl
+kinds_same Folder File = refl
+kinds_same Folder Folder = refl
+
 pub kind_ok : (d : Kind) (h : Handle) (r : Slot) → same_kind r.kind d ≡ true → kind_is d h r ≡ Ok r
 unfolding kind_is
 kind_ok d h r e = bind_ok _ _ tt (check_ok (same_kind r.kind d) _ e)
@@ -100,18 +110,26 @@ module _ (g : Geometry) (v : View) (f : Handle) (n : Name) where
   unfolding step
   step_err e q = bind_err _ _ e (reading_err g v Folder f e q)
 
-  module _ (r : Slot) (k : kind_is Folder f r ≡ Ok r) (o : Option Found) (w : FirstIs g v f n (found g v f r n) o) where
-    pub entered_some : (x : Found) → o ≡ Some x → Enters g v (entered g v f n r) x
-    entered_some x e =
-        let y = subst (FirstIs g v f n (found g v f r n)) e w in
-        let l = y.2.leads in
+  module _ (r : Slot) (k : kind_is Folder f r ≡ Ok r) where
+    entered_some : (x : Found) → FirstIs g v f n (found g v f r n) (Some x) → Enters g v (entered g v f n r) x
+    entered_some x w =
+        let l = w.2.leads in
         record {
-          child = bind_ok _ _ r k ∙ bind_ok _ _ y.0 (demand_ok (found g v f r n) _ y.0 y.1) ∙ ap (λ (z : Entry). Ok (child_of z)) l.here;
-          slot = child_fits g v f x.child (copied x.slot) l.child;
+          child = bind_ok _ _ r k ∙ bind_ok _ _ w.0 (demand_ok (found g v f r n) _ w.0 w.1) ∙ ap (λ (z : Entry). Ok (child_of z)) l.here;
+          slot = child_fits g v f x.child.handle (copied x.child.slot) l.child;
         }
 
-    pub entered_none : o ≡ None → entered g v f n r ≡ Err (NoSuchName f.slot)
-    entered_none e = bind_ok _ _ r k ∙ bind_err _ _ _ (demand_err (found g v f r n) _ (subst (FirstIs g v f n (found g v f r n)) e w))
+    entered_none : FirstIs g v f n (found g v f r n) None → entered g v f n r ≡ Err (NoSuchName f.slot)
+    entered_none w = bind_ok _ _ r k ∙ bind_err _ _ _ (demand_err (found g v f r n) _ w)
+
+-- the step at what the search answered
+pub enter_gives : (g : CardGeometry) (m n : Model) (f : Handle) (a : Name) (r : Slot) → kind_is Folder f r ≡ Ok r → Still m n → (o : Option Found) → FirstIs (sizes g) (shows g m) f a (found (sizes g) (shows g m) f r a) o →
+    (x : Result Found Refusal) → x ≡ ok_or o (NoSuchName f.slot) → Gives g x (entered (sizes g) (shows g m) f a r) (Enters (sizes g) (shows g m) (entered (sizes g) (shows g m) f a r)) m n
+enter_gives g m n f a r k s o w x e = subst (λ (z : Result _ _). Gives g z (entered (sizes g) (shows g m) f a r) (Enters (sizes g) (shows g m) (entered (sizes g) (shows g m) f a r)) m n) (sym e) (go o w)
+  where
+    go : (o : Option Found) → FirstIs (sizes g) (shows g m) f a (found (sizes g) (shows g m) f r a) o → Gives g (ok_or o (NoSuchName f.slot)) (entered (sizes g) (shows g m) f a r) (Enters (sizes g) (shows g m) (entered (sizes g) (shows g m) f a r)) m n
+    go None w = inl (s, entered_none (sizes g) (shows g m) f a r k w)
+    go (Some y) w = (s, entered_some (sizes g) (shows g m) f a r k y w)
 
 -- the same, on what was shown before the folder's slot was read
 module _ (g : Geometry) (was shown : Shown) (f : Handle) (n : Name) (r : Slot) (same : shown ≡ was) (fit : fits g (seen g was) f ≡ Ok r) where

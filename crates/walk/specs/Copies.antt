@@ -6,7 +6,7 @@ use Rattle.layout.specs.Format.{Geometry, Slot, Content, blank, cover, slotted, 
 use Rattle.layout.specs.Head.{cells}
 use Rattle.rule.specs.Agree.{View, slot_at, number, good, same_handle, given}
 use Rattle.walk.specs.declared.slot.SlotCopy.{SlotCopy}
-use Rattle.walk.specs.declared.leaf.LeafCopy.{LeafCopy}
+use Rattle.walk.specs.declared.leaf_copy.LeafCopy.{LeafCopy}
 
 abbrev pub copied : SlotCopy → Slot
 copied c = record { kind = c.kind; identity = c.identity.0; parent = c.parent; numbers = numbers_of c.count c.numbers }
@@ -18,6 +18,10 @@ SlotIs g v s o = option_map copied o ≡ slot_at g v s
 -- the bytes used
 abbrev pub front : LeafCopy → List ℕ
 front l = take l.used l.bytes
+
+-- of a folder's leaf, the bytes of its 15 cells
+abbrev pub folder_bytes : LeafCopy → List ℕ
+folder_bytes l = take 480 l.bytes
 
 -- a copy of what follows a body's head
 abbrev pub Holds : LeafCopy → Content → Type 0

@@ -24,7 +24,7 @@ CellIs g v f n e o = MatchOption o (hits g v f n e ≡ false) (λ c. Leads g v f
 pub record FoundAt (g : Geometry) (v : View) (f : Handle) (n : Name) (q : Place) (x : Found) : Type 0 where
   pub leaf : x.leaf.0 ≡ q.leaf
   pub place : x.place ≡ q.place
-  pub leads : Leads g v f n q.cell x.child (copied x.slot)
+  pub leads : Leads g v f n q.cell x.child.handle (copied x.child.slot)
 
 -- the first of these places whose entry has the name and is sound
 abbrev pub first_hit : Geometry → View → Handle → Name → List Place → Option Place

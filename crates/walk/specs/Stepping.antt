@@ -20,5 +20,5 @@ entered g v f n r = kind_is Folder f r >>= stepped g v f n
 
 -- what was found is where the step leads, and its slot is the child's
 pub record Enters (g : Geometry) (v : View) (x : Answer Handle) (a : Found) : Type 0 where
-  pub child : x ≡ Ok a.child
-  pub slot : fits g v a.child ≡ Ok (copied a.slot)
+  pub child : x ≡ Ok a.child.handle
+  pub slot : fits g v a.child.handle ≡ Ok (copied a.child.slot)

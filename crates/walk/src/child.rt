@@ -23,10 +23,13 @@ impl Owned for SlotCopy {
     }
 }
 
-fn is_child(slot: &SlotCopy, folder: &Handle, child: &Handle) -> bool
-    ensures { result ≡ (slot.now.identity.0 == child.now.identity.0 && same_handle slot.now.parent folder.now) }
-{
-    slot.identity.0 == child.identity.0 && names(slot, folder)
+impl SlotCopy {
+    // Whether it is the slot of this child, and names this folder.
+    pub fn is_child(&self, folder: &Handle, child: &Handle) -> bool
+        ensures { result ≡ (self.now.identity.0 == child.now.identity.0 && same_handle self.now.parent folder.now) }
+    {
+        self.identity == child.identity && names(self, folder)
+    }
 }
 
 // The slot of the child that an entry of this folder leads to, if the entry is sound. One read.
@@ -38,15 +41,8 @@ pub fn read_child<D: Device>(
 ) -> Result<Option<SlotCopy>, Fault>
     ensures { Says g.now result (ChildIs (sizes g.now) (shows g.now (D.Device.model device.old)) folder.now child.now) (D.Device.model device.old) (D.Device.model device.new) }
 {
-    let slot = read_slot(device, g, child.slot)?;
-    match slot {
-        Some(s) => {
-            if is_child(&s, folder, child) {
-                Ok(Some(s))
-            } else {
-                Ok(None)
-            }
-        }
-        None => Ok(None),
+    match read_slot(device, g, child.slot)? {
+        Some(slot) if slot.is_child(folder, child) => Ok(Some(slot)),
+        _ => Ok(None),
     }
 }

@@ -3,7 +3,7 @@ ghost use Rattle.std.specs.Prelude.{◌≡◌};
 ghost use Rattle.std.specs.Option.{option_map};
 ghost use Rattle.layout.specs.Format.{parse as parsed};
 ghost use Rattle.layout.specs.Sizes.{sizes};
-ghost use Rattle.layout.specs.View.{SlotSized, slot_view};
+ghost use Rattle.layout.specs.View.{slot_view};
 ghost use Rattle.rule.specs.Agree.{slot_in, number};
 ghost use Rattle.rule.specs.Agree as agree;
 ghost use Rattle.layout.specs.Format.{slotted};
@@ -19,29 +19,14 @@ use layout::geometry::Geometry;
 use layout::number::number16;
 
 // A well-formed slot, taken out of its block; `numbers` are the block numbers of its leaves, two bytes each.
-#[derive(Clone, Copy)]
+// Kept: a slice would keep the block, and a vector needs the heap; only `number` reads the buffer.
+#[derive(Clone, Copy, PartialEq, Eq, Debug)]
 pub struct SlotCopy {
     pub kind: Kind,
     pub identity: Identity,
     pub parent: Handle,
     pub count: u16,
-    pub numbers: [u8; 128],
-}
-
-fn copy_slot(kind: Kind, slot: &Slot) -> SlotCopy
-    requires { SlotSized slot.now.numbers.now }
-    ensures { slotted (copied result) ≡ slot_view kind slot.now }
-{
-    let mut numbers = [0u8; 128];
-    let length = slot.numbers.len();
-    numbers[0..length].copy_from_slice(slot.numbers);
-    SlotCopy {
-        kind,
-        identity: slot.identity,
-        parent: slot.parent,
-        count: (length / 2) as u16,
-        numbers,
-    }
+    numbers: [u8; 128],
 }
 
 // The slot in a block, if it is well formed.
@@ -49,8 +34,8 @@ pub fn slot_in(g: &Geometry, at: BlockNo, block: &[u8; 512]) -> Option<SlotCopy>
     ensures { option_map copied result ≡ slot_in (parsed (sizes g.now) at.0 block.now) }
 {
     match parse(g, at, block) {
-        Block::FileSlot(s) => Some(copy_slot(Kind::File, &s)),
-        Block::FolderSlot(s) => Some(copy_slot(Kind::Folder, &s)),
+        Block::FileSlot(s) => Some(SlotCopy::new(Kind::File, &s)),
+        Block::FolderSlot(s) => Some(SlotCopy::new(Kind::Folder, &s)),
         _ => None,
     }
 }
@@ -71,7 +56,24 @@ pub fn read_slot<D: Device>(
 }
 
 impl SlotCopy {
+    #[tactic(auto, using(crate::proofs::Copying::numbers_copied))]
+    fn new(kind: Kind, slot: &Slot) -> SlotCopy
+        ensures { slotted (copied result) ≡ slot_view kind slot.now }
+    {
+        let mut numbers = [0u8; 128];
+        let length = slot.numbers.len();
+        numbers[0..length].copy_from_slice(slot.numbers);
+        SlotCopy {
+            kind,
+            identity: slot.identity,
+            parent: slot.parent,
+            count: (length / 2) as u16,
+            numbers,
+        }
+    }
+
     // The block of a leaf; 0, which is no body, from the count on.
+    #[tactic(auto, using(crate::proofs::Copying::number_none, crate::proofs::Copying::number_here))]
     pub fn number(&self, leaf: LeafNo) -> BlockNo
         ensures { result.0 ≡ number (copied self.now) leaf.0 }
     {

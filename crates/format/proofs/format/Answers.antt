@@ -3,7 +3,7 @@ use Rattle.std.proofs.lemmas.Result.{err_from_is_err_and}
 use Rattle.device.specs.Answers.{SyncAnswer}
 use Rattle.device.specs.declared.fault.Synced.TheVariants.{Settled, Unsure}
 use Rattle.rule.specs.Changing.{synced}
-use Rattle.format.proofs.News.{format_outside, format_small, told_as, write_refused, sync_refused, sync_answered, refused_early}
+use Rattle.format.proofs.News.{format_outside, format_small, write_refused, sync_refused, sync_answered, refused_early}
 use Rattle.format.proofs.format.Goals as goal
 
 pub returns-in_default : goal.returns-in_default
@@ -19,33 +19,21 @@ returns-then-count-blocks g c =
 pub returns-in_err-write_new : goal.returns-in_err-write_new
 returns-in_err-write_new g c =
     let p = err_from_is_err_and c.from_residual.result c.from_residual.ensures.1 in
-    let w = c.in-Some.ensures in
-    let m = g.D.Device.model c.args.device.now in
-    told_as _ _ _ _ m _ _ w.1 w.2
-    (write_refused c.in-Some.g m _ _ (omega (arith, w.1, c.count.ensures, c.if-count-blocks.false)) _ c.in_err-write_new.field-0.0 p.1 p.2 c.in_err-write_new.ensures)
+    write_refused c.in-Some.g c.args.blocks c.args.slots c.in-Some.ensures.1 c.in-Some.ensures.2 (g.D.Device.model c.args.device.now) _ _ (omega (arith, c.count.ensures, c.if-count-blocks.false)) _ c.in_err-write_new.field-0.0 p.1 p.2 c.in_err-write_new.ensures
 
 pub returns-in_err-sync : goal.returns-in_err-sync
 returns-in_err-sync g c =
     let p = err_from_is_err_and c.from_residual-in_err-sync.result c.from_residual-in_err-sync.ensures.1 in
-    let w = c.in-Some.ensures in
-    let m = g.D.Device.model c.args.device.now in
-    told_as _ _ _ _ m _ _ w.1 w.2
-    (sync_refused c.in-Some.g m _ _ (omega (arith, w.1, c.count.ensures, c.if-count-blocks.false)) _ _ c.in_err-sync.field-0.0 c.in_ok-write_new.ensures.1 p.1 p.2 c.in_err-sync.ensures)
+    sync_refused c.in-Some.g c.args.blocks c.args.slots c.in-Some.ensures.1 c.in-Some.ensures.2 (g.D.Device.model c.args.device.now) _ _ (omega (arith, c.count.ensures, c.if-count-blocks.false)) _ _ c.in_err-sync.field-0.0 c.in_ok-write_new.ensures.1 p.1 p.2 c.in_err-sync.ensures
 
 pub returns-in-Settled : goal.returns-in-Settled
 unfolding synced
 returns-in-Settled g c =
-    let w = c.in-Some.ensures in
-    let m = g.D.Device.model c.args.device.now in
-    told_as _ _ _ _ m _ _ w.1 w.2
-    (sync_answered c.in-Some.g m _ _ (omega (arith, w.1, c.count.ensures, c.if-count-blocks.false)) (g.D.Device.model c.write_new.new.device) Settled c.in_ok-write_new.ensures.1 refl
-    (subst (SyncAnswer (g.D.Device.model c.write_new.new.device) (g.D.Device.model c.sync.new.self)) c.in-Settled.is c.in_ok-sync.ensures))
+    sync_answered c.in-Some.g c.args.blocks c.args.slots c.in-Some.ensures.1 c.in-Some.ensures.2 (g.D.Device.model c.args.device.now) _ _ (omega (arith, c.count.ensures, c.if-count-blocks.false)) (g.D.Device.model c.write_new.new.device) Settled c.in_ok-write_new.ensures.1 refl
+    (subst (SyncAnswer (g.D.Device.model c.write_new.new.device) (g.D.Device.model c.sync.new.self)) c.in-Settled.is c.in_ok-sync.ensures)
 
 pub returns-in-Unsure : goal.returns-in-Unsure
 unfolding synced
 returns-in-Unsure g c =
-    let w = c.in-Some.ensures in
-    let m = g.D.Device.model c.args.device.now in
-    told_as _ _ _ _ m _ _ w.1 w.2
-    (sync_answered c.in-Some.g m _ _ (omega (arith, w.1, c.count.ensures, c.if-count-blocks.false)) (g.D.Device.model c.write_new.new.device) Unsure c.in_ok-write_new.ensures.1 refl
-    (subst (SyncAnswer (g.D.Device.model c.write_new.new.device) (g.D.Device.model c.sync.new.self)) c.in-Unsure.is c.in_ok-sync.ensures))
+    sync_answered c.in-Some.g c.args.blocks c.args.slots c.in-Some.ensures.1 c.in-Some.ensures.2 (g.D.Device.model c.args.device.now) _ _ (omega (arith, c.count.ensures, c.if-count-blocks.false)) (g.D.Device.model c.write_new.new.device) Unsure c.in_ok-write_new.ensures.1 refl
+    (subst (SyncAnswer (g.D.Device.model c.write_new.new.device) (g.D.Device.model c.sync.new.self)) c.in-Unsure.is c.in_ok-sync.ensures)

@@ -1,8 +1,6 @@
-use Rattle.std.proofs.Common.{◌≡◌, ℕ, ◌<◌, length, get_or}
-use Rattle.rule.specs.Agree.{number}
-use Rattle.rule.specs.Card.{block}
+use Rattle.encode.specs.Heads.{Begins}
 use Rattle.walk.specs.Copies.{copied}
 use Rattle.change.proofs.blocks.numbers_of.Given as goal
 
 abbrev pub invariant-loop-k : goal.invariant-loop-k
-invariant-loop-k l = (length l.all ≡ 64) × ((k : ℕ) → k < l.k → (get_or l.all k (block 0)).0 ≡ number (copied l.slot) k)
+invariant-loop-k l = Begins (copied l.slot).numbers l.number-items l.k

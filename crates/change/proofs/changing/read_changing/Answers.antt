@@ -1,30 +1,26 @@
-use Rattle.std.proofs.Common.{sym, ◌∙◌, inl}
+use Rattle.std.proofs.Common.{sym, refl, ◌∙◌, inl}
 use Rattle.std.proofs.lemmas.Result.{err_from_is_err_and}
-use Rattle.layout.specs.Sizes.{sizes}
-use Rattle.walk.specs.Still.{shows}
-use Rattle.walk.proofs.Stepping.{refused_as, gives_exit}
+use Rattle.walk.proofs.Stepping.{refused_as}
 use Rattle.change.proofs.Checks.{no_fit, far, near}
 use Rattle.change.proofs.changing.read_changing.Goals as goal
 
 pub returns-in_err-slot : goal.returns-in_err-slot
 returns-in_err-slot g c t =
     let p = err_from_is_err_and c.from_residual.result c.from_residual.ensures.1 in
-    gives_exit c.args.g.now _ _ c.from_residual.result _ _ _ _ p.1 p.2
-    (refused_as c.args.g.now _ _ _ _ _ (no_fit (sizes c.args.g.now) (shows c.args.g.now (g.D.Device.model c.args.device.now)) c.args.kind c.args.handle.now _) c.in_err-slot.ensures)
+    rw (p.1, p.2) (refused_as c.args.known.now.geometry _ _ _ _ _ (no_fit _ _ _ _ _) c.in_err-slot.ensures)
 
 pub returns-then-not-is_reached : goal.returns-then-not-is_reached
 returns-then-not-is_reached g c t =
     let e = c.in_ok-slot.ensures in
-    inl (e.0, far (sizes c.args.g.now) (shows c.args.g.now (g.D.Device.model c.args.device.now)) c.args.kind c.args.handle.now _ e.1 (sym (t.slot_is c.args.handle.now.slot.0) ∙ sym c.if-not-is_reached.ensures))
+    inl (e.0, far _ _ _ _ _ e.1 (sym (t.slot_is c.args.handle.now.slot.0) ∙ sym c.if-not-is_reached.ensures))
 
 pub returns-in_err-want_kind : goal.returns-in_err-want_kind
 returns-in_err-want_kind g c t =
     let e = c.in_ok-slot.ensures in
     let p = err_from_is_err_and c.from_residual-in_err-want_kind.result c.from_residual-in_err-want_kind.ensures.1 in
-    gives_exit c.args.g.now _ _ c.from_residual-in_err-want_kind.result _ _ _ _ p.1 p.2
-    (inl (e.0, near (sizes c.args.g.now) (shows c.args.g.now (g.D.Device.model c.args.device.now)) c.args.kind c.args.handle.now _ e.1 (sym (t.slot_is c.args.handle.now.slot.0) ∙ sym c.if-not-is_reached.ensures) ∙ c.in_err-want_kind.ensures))
+    rw (p.1, p.2) (inl (e.0, near _ _ _ _ _ e.1 (sym (t.slot_is c.args.handle.now.slot.0) ∙ sym c.if-not-is_reached.ensures) ∙ c.in_err-want_kind.ensures))
 
 pub returns : goal.returns
 returns g c t =
     let e = c.in_ok-slot.ensures in
-    (e.0, near (sizes c.args.g.now) (shows c.args.g.now (g.D.Device.model c.args.device.now)) c.args.kind c.args.handle.now _ e.1 (sym (t.slot_is c.args.handle.now.slot.0) ∙ sym c.if-not-is_reached.ensures) ∙ c.in_ok-want_kind.ensures)
+    (e.0, (refl, near _ _ _ _ _ e.1 (sym (t.slot_is c.args.handle.now.slot.0) ∙ sym c.if-not-is_reached.ensures) ∙ c.in_ok-want_kind.ensures))

@@ -5,26 +5,24 @@ use Rattle.rule.specs.Changing.{open_place}
 use Rattle.walk.specs.Copies.{copied}
 use Rattle.walk.specs.Still.{shows}
 use Rattle.change.specs.Scanning.{SpotOr}
-use Rattle.change.proofs.Checks.{decides_exit}
 use Rattle.change.proofs.Creates.{good_named, no_child}
 use Rattle.change.proofs.create.create_in.Goals as goal
 
 pub returns-in_err-child : goal.returns-in_err-child
 returns-in_err-child c m w x =
     let p = err_from_is_err_and c.from_residual.result c.from_residual.ensures.1 in
-    decides_exit c.from_residual.result _ _ _ _ p.1 p.2
-    (no_child c.args.g.now m c.args.memory.now c.args.kind c.args.folder.now c.args.name.now c.args.marks.now c.args.slot.now w _ (sym c.in_err-child.ensures))
+    rw (p.1, p.2) (no_child _ _ _ _ _ _ _ _ w _ (sym c.in_err-child.ensures))
 
 pub returns-in-Some : goal.returns-in-Some
 returns-in-Some c m w x =
-    let v = shows c.args.g.now m in
-    let q = subst (SpotOr v (copied c.args.slot.now) (open_place (sizes c.args.g.now) v c.args.folder.now (copied c.args.slot.now)) None) c.in-Some.is x in
-    c.create_in_place.ensures c.args.g.now c.args.marks.now m c.args.name.now q.0
+    let v = shows c.args.known.now.geometry m in
+    let q = subst (SpotOr v (copied c.args.folder.now.slot) (open_place (sizes c.args.known.now.geometry) v c.args.folder.now.handle (copied c.args.folder.now.slot)) None) c.in-Some.is x in
+    c.create_in_place.ensures m c.args.name.now q.0
     (record { entering = w; child = sym c.in_ok-child.ensures; cell = c.entry_cell-cell.ensures (good_named c.args.name.now w.name) }) q.1 q.2
 
 pub returns-in-None : goal.returns-in-None
 returns-in-None c m w x =
-    let v = shows c.args.g.now m in
-    let none = subst (SpotOr v (copied c.args.slot.now) (open_place (sizes c.args.g.now) v c.args.folder.now (copied c.args.slot.now)) None) c.in-None.is x in
+    let v = shows c.args.known.now.geometry m in
+    let none = subst (SpotOr v (copied c.args.folder.now.slot) (open_place (sizes c.args.known.now.geometry) v c.args.folder.now.handle (copied c.args.folder.now.slot)) None) c.in-None.is x in
     c.create_on_leaf.ensures m c.args.name.now
     (record { entering = w; child = sym c.in_ok-child.ensures; cell = c.entry_cell-cell.ensures (good_named c.args.name.now w.name) }) none

@@ -1,12 +1,8 @@
 use Rattle.std.proofs.Common.{refl, inl, inr}
 use Rattle.std.proofs.lemmas.Result.{err_from_is_err_and}
-use Rattle.layout.specs.Sizes.{sizes}
-use Rattle.marks.proofs.Telling.{marks_tell}
-use Rattle.walk.specs.Still.{shows}
 use Rattle.walk.proofs.Stills.{still, still_then, failed_then}
-use Rattle.walk.proofs.Stepping.{refused_as, gives_exit}
-use Rattle.walk.specs.Copies.{copied}
-use Rattle.change.proofs.Checks.{gives_decided}
+use Rattle.walk.proofs.Stepping.{refused_as}
+use Rattle.change.proofs.Checks.{tells_of, gives_decided}
 use Rattle.change.proofs.Removes.{spot_child}
 use Rattle.change.proofs.Creates.{bad_name, no_folder, taken}
 use Rattle.change.proofs.Sounding.{named_none, named_some, vacant_is}
@@ -16,43 +12,40 @@ pub returns-in_err-check_name : goal.returns-in_err-check_name
 returns-in_err-check_name g c t =
     let m = g.D.Device.model c.args.device.now in
     let p = err_from_is_err_and c.from_residual.result c.from_residual.ensures.1 in
-    gives_exit c.args.g.now _ _ c.from_residual.result _ _ _ _ p.1 p.2
-    (inl (still m, bad_name c.args.g.now m c.args.memory.now c.args.kind c.args.folder.now c.args.name.now _ c.in_err-check_name.ensures))
+    rw (p.1, p.2) (inl (still m, bad_name c.args.known.now.geometry m _ _ _ _ _ c.in_err-check_name.ensures))
 
-pub returns-in_err-slot : goal.returns-in_err-slot
-returns-in_err-slot g c t =
+pub returns-in_err-folder : goal.returns-in_err-folder
+returns-in_err-folder g c t =
     let m = g.D.Device.model c.args.device.now in
-    let tells = marks_tell (sizes c.args.g.now) (shows c.args.g.now m) c.args.marks.now t.rooted t.marked in
-    let p = err_from_is_err_and c.from_residual-in_err-slot.result c.from_residual-in_err-slot.ensures.1 in
-    gives_exit c.args.g.now _ _ c.from_residual-in_err-slot.result _ _ _ _ p.1 p.2
-    (refused_as c.args.g.now _ _ _ _ _ (no_folder c.args.g.now m c.args.memory.now c.args.kind c.args.folder.now c.args.name.now c.in_ok-check_name.ensures _) (c.in_err-slot.ensures tells))
+    let tells = tells_of t in
+    let p = err_from_is_err_and c.from_residual-in_err-folder.result c.from_residual-in_err-folder.ensures.1 in
+    rw (p.1, p.2) (refused_as c.args.known.now.geometry _ _ _ _ _ (no_folder c.args.known.now.geometry m _ _ _ _ c.in_ok-check_name.ensures _) (c.in_err-folder.ensures tells))
 
 pub returns-in_err-scan : goal.returns-in_err-scan
 returns-in_err-scan g c t =
     let m = g.D.Device.model c.args.device.now in
-    let tells = marks_tell (sizes c.args.g.now) (shows c.args.g.now m) c.args.marks.now t.rooted t.marked in
-    let e = c.in_ok-slot.ensures tells in
+    let tells = tells_of t in
+    let e = c.in_ok-folder.ensures tells in
     let p = err_from_is_err_and c.from_residual-in_err-scan.result c.from_residual-in_err-scan.ensures.1 in
-    gives_exit c.args.g.now _ _ c.from_residual-in_err-scan.result _ _ _ _ p.1 p.2
-    (inr (c.in_err-scan.field-0.0, refl, failed_then c.args.g.now _ _ _ c.in_err-scan.field-0.0 e.0 c.in_err-scan.ensures))
+    rw (p.1, p.2) (inr (c.in_err-scan.field-0.0, refl, failed_then c.args.known.now.geometry _ _ _ c.in_err-scan.field-0.0 e.0 c.in_err-scan.ensures))
 
 pub returns-in-Some : goal.returns-in-Some
 returns-in-Some g c t =
     let m = g.D.Device.model c.args.device.now in
-    let tells = marks_tell (sizes c.args.g.now) (shows c.args.g.now m) c.args.marks.now t.rooted t.marked in
-    let e = c.in_ok-slot.ensures tells in
+    let tells = tells_of t in
+    let e = c.in_ok-folder.ensures tells in
     let d = c.in_ok-scan.ensures in
-    let some = named_some c.args.g.now m _ c.args.marks.now c.args.folder.now c.in_ok-slot.slot c.args.name.now c.in_ok-scan.scan tells e.0 e.1 d.1 c.in-Some.spot c.in-Some.is in
-    let child = spot_child c.args.g.now (shows c.args.g.now m) (copied c.in_ok-slot.slot) some.0 c.in-Some.spot c.child_at.result some.2 (c.child_at.ensures some.2.inside) in
-    inl (still_then _ _ _ e.0 d.0, taken c.args.g.now m c.args.memory.now c.args.kind c.args.folder.now c.args.name.now c.in_ok-check_name.ensures c.in_ok-slot.slot e.1 some.0 _ some.1 child)
+    let some = named_some c.args.known.now.geometry _ _ _ _ _ _ _ tells e.0 e.1.1 d.1 c.in-Some.spot c.in-Some.is in
+    let child = spot_child c.args.known.now.geometry _ _ some.0 c.in-Some.spot c.child_at.result some.2 (c.child_at.ensures some.2.inside) in
+    rw (← e.1.0) (inl (still_then _ _ _ e.0 d.0, taken c.args.known.now.geometry m _ _ _ _ c.in_ok-check_name.ensures _ e.1.1 some.0 _ some.1 child))
 
 pub returns : goal.returns
 returns g c t =
     let m = g.D.Device.model c.args.device.now in
-    let tells = marks_tell (sizes c.args.g.now) (shows c.args.g.now m) c.args.marks.now t.rooted t.marked in
-    let e = c.in_ok-slot.ensures tells in
+    let tells = tells_of t in
+    let e = c.in_ok-folder.ensures tells in
     let d = c.in_ok-scan.ensures in
-    let none = named_none c.args.g.now m _ c.args.marks.now c.args.folder.now c.in_ok-slot.slot c.args.name.now c.in_ok-scan.scan tells e.0 e.1 d.1 c.in-None.is in
-    let open_is = vacant_is c.args.g.now m _ c.args.marks.now c.args.folder.now c.in_ok-slot.slot c.args.name.now c.in_ok-scan.scan tells e.0 e.1 d.1 c.in-None.is in
-    gives_decided c.args.g.now c.create_in.result _ _ m _ (still_then _ _ _ e.0 d.0)
-    (c.create_in.ensures m (record { tells = tells; name = c.in_ok-check_name.ensures; slot = e.1; none = none }) open_is)
+    let none = named_none c.args.known.now.geometry _ _ _ _ _ _ _ tells e.0 e.1.1 d.1 c.in_default.is in
+    let open_is = vacant_is c.args.known.now.geometry _ _ _ _ _ _ _ tells e.0 e.1.1 d.1 c.in_default.is in
+    rw (← e.1.0) (gives_decided c.args.known.now.geometry c.create_in.result _ _ m _ (still_then _ _ _ e.0 d.0)
+    (c.create_in.ensures m (record { tells = tells; name = c.in_ok-check_name.ensures; slot = e.1.1; none = none }) open_is))

@@ -10,7 +10,7 @@ use Rattle.change.proofs.scan.scan_folder.Given as goal
 abbrev pub invariant-loop-k : goal.invariant-loop-k
 invariant-loop-k g l =
     Still (g.D.Device.model l.initial.device) (g.D.Device.model l.device)
-    × (first_sought (sizes l.g) l.marks l.folder l.sought l.name (places (shows l.g (g.D.Device.model l.initial.device)) l.folder (copied l.slot))
-    ≡ first_sought (sizes l.g) l.marks l.folder l.sought l.name (places_over (shows l.g (g.D.Device.model l.initial.device)) l.folder (copied l.slot) (from l.k (l.slot.count - l.k))))
-    × SpotOr (shows l.g (g.D.Device.model l.initial.device)) (copied l.slot) (first_sought (sizes l.g) l.marks l.folder Open l.name (places (shows l.g (g.D.Device.model l.initial.device)) l.folder (copied l.slot)))
-    (first_sought (sizes l.g) l.marks l.folder Open l.name (places_over (shows l.g (g.D.Device.model l.initial.device)) l.folder (copied l.slot) (from l.k (l.slot.count - l.k)))) l.vacant
+    × (first_sought (sizes l.known.geometry) l.known.marks.now l.folder.handle l.sought (places (shows l.known.geometry (g.D.Device.model l.initial.device)) l.folder.handle (copied l.folder.slot))
+    ≡ first_sought (sizes l.known.geometry) l.known.marks.now l.folder.handle l.sought (places_over (shows l.known.geometry (g.D.Device.model l.initial.device)) l.folder.handle (copied l.folder.slot) (from l.k (l.folder.slot.count - l.k))))
+    × SpotOr (shows l.known.geometry (g.D.Device.model l.initial.device)) (copied l.folder.slot) (first_sought (sizes l.known.geometry) l.known.marks.now l.folder.handle Open (places (shows l.known.geometry (g.D.Device.model l.initial.device)) l.folder.handle (copied l.folder.slot)))
+    (first_sought (sizes l.known.geometry) l.known.marks.now l.folder.handle Open (places_over (shows l.known.geometry (g.D.Device.model l.initial.device)) l.folder.handle (copied l.folder.slot) (from l.k (l.folder.slot.count - l.k)))) l.vacant

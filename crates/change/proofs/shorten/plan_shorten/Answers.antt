@@ -1,23 +1,19 @@
 use Rattle.std.proofs.lemmas.Result.{err_from_is_err_and}
-use Rattle.layout.specs.Sizes.{sizes}
-use Rattle.marks.proofs.Telling.{marks_tell}
-use Rattle.walk.specs.Still.{shows}
-use Rattle.walk.proofs.Stepping.{refused_as, gives_exit}
-use Rattle.change.proofs.Checks.{gives_decided}
+use Rattle.walk.proofs.Stepping.{refused_as}
+use Rattle.change.proofs.Checks.{tells_of, gives_decided}
 use Rattle.change.proofs.Shortens.{no_file}
 use Rattle.change.proofs.shorten.plan_shorten.Goals as goal
 
-pub returns-in_err-slot : goal.returns-in_err-slot
-returns-in_err-slot g c t =
+pub returns-in_err-file : goal.returns-in_err-file
+returns-in_err-file g c t =
     let m = g.D.Device.model c.args.device.now in
-    let tells = marks_tell (sizes c.args.g.now) (shows c.args.g.now m) c.args.marks.now t.rooted t.marked in
+    let tells = tells_of t in
     let p = err_from_is_err_and c.from_residual.result c.from_residual.ensures.1 in
-    gives_exit c.args.g.now _ _ c.from_residual.result _ _ _ _ p.1 p.2
-    (refused_as c.args.g.now _ _ _ _ _ (no_file c.args.g.now m c.args.memory.now c.args.file.now c.args.n.0 _) (c.in_err-slot.ensures tells))
+    rw (p.1, p.2) (refused_as c.args.known.now.geometry _ _ _ _ _ (no_file c.args.known.now.geometry m _ _ _ _) (c.in_err-file.ensures tells))
 
 pub returns : goal.returns
 returns g c t =
     let m = g.D.Device.model c.args.device.now in
-    let tells = marks_tell (sizes c.args.g.now) (shows c.args.g.now m) c.args.marks.now t.rooted t.marked in
-    let e = c.in_ok-slot.ensures tells in
-    gives_decided c.args.g.now c.shorten_slot.result _ _ m _ e.0 (c.shorten_slot.ensures c.args.g.now m e.1)
+    let tells = tells_of t in
+    let e = c.in_ok-file.ensures tells in
+    rw (← e.1.0) (gives_decided c.args.known.now.geometry c.shorten_file.result _ _ m _ e.0 (c.shorten_file.ensures m e.1.1))

@@ -1,8 +1,7 @@
-use Rattle.std.proofs.Common.{◌≡◌, [], take, None, arith}
-use Rattle.std.proofs.lemmas.List.{take_all}
+use Rattle.std.proofs.Common.{◌≡◌, [], None, arith}
 use Rattle.std.proofs.lemmas.Result.{err_from_is_err_and}
-use Rattle.device.specs.Effect.{first_outside, Altered, accepted}
-use Rattle.device.proofs.Effects.{altered_more, refused_at, cut_altered, cut_refused}
+use Rattle.device.specs.Effect.{first_outside}
+use Rattle.device.proofs.Effects.{altered_more, refused_at, cut_refused}
 use Rattle.device.proofs.effect.write_all.Goals as goal
 
 pub returns-in_err-write : goal.returns-in_err-write
@@ -17,11 +16,3 @@ pub loop-put-preserved : goal.loop-put-preserved
 loop-put-preserved g c =
     let m = g.D.Device.model in
     altered_more c.args.puts.now c.loop-put.put-index (record { block = record { 0 = 0 }; bytes = [] }) (omega arith) (m c.args.device.now) (m c.loop-put.device) (m c.write.new.self) c.loop-put.invariant c.in_ok-write.ensures
-
-pub returns : goal.returns
-returns g c =
-    let m = g.D.Device.model in
-    let inside : first_outside (m c.args.device.now).count c.args.puts.now ≡ None = let e = c.in_default.ensures in cc in
-    let all : take c.loop-put.put-index c.args.puts.now ≡ c.args.puts.now = take_all c.loop-put.put-index c.args.puts.now (omega arith) in
-    let h : Altered accepted c.args.puts.now (m c.args.device.now) (m c.loop-put.device) = rw all at c.loop-put.invariant in
-    record { answer = (inside, h); cut = cut_altered accepted c.args.puts.now (m c.args.device.now) (m c.loop-put.device) h }

@@ -1,29 +1,26 @@
-use Rattle.std.proofs.Common.{◌≡◌, ◌<◌, length, set, refl, ◌∙◌, arith, rules}
+use Rattle.std.proofs.Common.{◌≡◌, ◌<◌, length, set, ◌∙◌, arith, rules}
 use Rattle.std.proofs.lemmas.List.{length-set}
-use Rattle.layout.specs.Format.{encode}
 use Rattle.layout.specs.Head.{cells}
 use Rattle.layout.proofs.Cells.{length_cells}
 use Rattle.layout.proofs.Back.{folder_read_from, cells_whole, set_whole, changed_at}
-use Rattle.encode.specs.Heads.{body_head_bytes}
 use Rattle.encode.proofs.Cells.{changed_block}
-use Rattle.encode.proofs.Filling.{framed}
 use Rattle.encode.proofs.block.encode_folder_change.Goals as goal
 
 pub returns : goal.returns
-unfolding encode
 returns c =
-    let whole : length c.args.payload.now ≡ 480 = omega arith in
-    let within : c.args.place < 15 = omega arith in
-    let cell : length c.args.cell.now ≡ 32 = search rules in
-    let filled = framed (length c.args.out.now) 496 _ _ (body_head_bytes 5 c.args.back.now 480) c.args.payload.now c.fill.ensures c.body_head.ensures (omega arith) in
-    let e =
-    changed_block _ (body_head_bytes 5 c.args.back.now 480) c.args.payload.now c.args.cell.now _ c.args.place refl whole within cell filled c.copy_from_slice.ensures.after in
-    let es = cells c.args.payload.now in
-    let len = length_cells c.args.payload.now in
+    let back = c.args.back.now in
+    let z = c.args.payload.now in
+    let k = c.args.place in
+    let cell = c.args.cell.now in
+    let whole : length z ≡ 480 = c.in_ok-block.ensures.bytes.0 in
+    let within : k < 15 = omega arith in
+    let size : length cell ≡ 32 = search rules in
+    let e = changed_block back z cell _ _ k whole within size c.in_ok-block.ensures.bytes.1 c.copy_from_slice.ensures.after in
+    let len = length_cells z in
     record {
       bytes = ((whole, within), e);
-      read = λ _. (
-        folder_read_from c.args.back.now (set es c.args.place c.args.cell.now) _ (length-set es c.args.place c.args.cell.now ∙ len) (set_whole es c.args.place c.args.cell.now cell (cells_whole c.args.payload.now whole)) e,
-        changed_at c.args.place c.args.cell.now es (omega arith),
+      read = (
+        folder_read_from back (set (cells z) k cell) _ (length-set (cells z) k cell ∙ len) (set_whole (cells z) k cell size (cells_whole z whole)) e,
+        changed_at k cell (cells z) (omega arith),
       );
     }

@@ -1,18 +1,20 @@
-use Rattle.std.proofs.Common.{◌<◌, length, arith}
+use Rattle.std.proofs.Common.{◌≡◌, subst, ◌∙◌, arith}
+use Rattle.std.proofs.lemmas.List.{length-take-le, take_all}
 use Rattle.layout.specs.View.{all_numbers}
-use Rattle.encode.proofs.Numbers.{copied_more, copied_all}
+use Rattle.encode.specs.Heads.{Begins}
+use Rattle.encode.proofs.Numbers.{begins_more, begins_plain, number_or_zero}
 use Rattle.encode.proofs.slot.copy_numbers.Goals as goal
-use Rattle.encode.proofs.slot.copy_numbers.Goals.{in-Some, in_default}
 
 pub loop-k-preserved : goal.loop-k-preserved
 loop-k-preserved c =
-    let within : c.loop-k.k < length (all_numbers c.args.slot.now.numbers.now) = omega (arith, c.count-count.ensures) in
-    elim c.match-number.branch [
-      | in-Some w ↦
-          copied_more (all_numbers c.args.slot.now.numbers.now) c.args.out.now c.loop-k.out _ c.loop-k.k _ within (omega arith) c.loop-k.invariant w.in-Some.ensures.1 w.out-is
-      | in_default w ↦ absurd (omega (arith, w.in_default.ensures))
-    ]
+    let ns = all_numbers c.args.slot.now.numbers.now in
+    begins_more ns c.loop-k.number-items c.loop-k.k c.unwrap_or.result c.loop-k-test.true c.loop-k.invariant
+    (number_or_zero ns c.loop-k.k c.number.result c.unwrap_or.result c.number.ensures c.unwrap_or.ensures)
 
 pub returns : goal.returns
 returns c =
-    copied_all (all_numbers c.args.slot.now.numbers.now) c.args.out.now c.loop-k.out c.loop-k.k c.count-count.result c.count-count.ensures c.if-count-gt64.false (omega arith) c.loop-k.invariant
+    let ns = all_numbers c.args.slot.now.numbers.now in
+    let n = c.count-count.result in
+    let full : c.loop-k.k ≡ 64 = omega arith in
+    let begins = subst (Begins ns c.loop-k.number-items) full c.loop-k.invariant in
+    (omega (arith, length-take-le n c.loop-k.number-items (omega (arith, begins.size))), begins_plain ns c.loop-k.number-items n begins (omega arith) (omega arith) ∙ take_all n ns (omega arith))

@@ -1,5 +1,5 @@
 use Rattle.std.proofs.Common.{◌≡◌, ◌++◌, drop, replicate}
 use Rattle.listing.proofs.list.fill_lines.Given as goal
 
-abbrev pub invariant-loop-k : goal.invariant-loop-k
-invariant-loop-k g l = l.lines ≡ replicate l.k l.line ++ drop l.k l.initial.lines
+abbrev pub invariant-loop-place : goal.invariant-loop-place
+invariant-loop-place g l = l.lines ≡ replicate l.place-index l.line ++ drop l.place-index l.initial.lines

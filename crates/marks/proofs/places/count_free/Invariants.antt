@@ -1,7 +1,7 @@
-use Rattle.std.proofs.Common.{◌≡◌, ◌+◌, ◌≤◌}
-use Rattle.marks.specs.Marks.{unmarked}
-use Rattle.marks.proofs.Scans.{left}
+use Rattle.std.proofs.Common.{◌≡◌, take}
+use Rattle.std.specs.List.{count_by}
+use Rattle.marks.specs.Marks.{is_unmarked}
 use Rattle.marks.proofs.places.count_free.Given as goal
 
-abbrev pub invariant-loop-at : goal.invariant-loop-at
-invariant-loop-at g l = (l.count ≤ l.at) × (left (unmarked l.marks) l.low l.high ≡ l.count + left (unmarked l.marks) l.at l.high)
+abbrev pub invariant-loop-mark : goal.invariant-loop-mark
+invariant-loop-mark g l = l.count ≡ count_by is_unmarked (take l.mark-index l.mark-items)

@@ -1,6 +1,8 @@
-use Rattle.std.proofs.Common.{◌≡◌, ℕ, cond, ltb, length, get_or, None}
+use Rattle.std.proofs.Common.{◌≡◌, ℕ, ◌<◌, ◌≤◌, get_or, None}
 use Rattle.survey.specs.Known.{body_mark_by}
 use Rattle.survey.proofs.mark.mark_bodies.Given as goal
 
-abbrev pub invariant-loop-b : goal.invariant-loop-b
-invariant-loop-b l = (length l.held ≡ 4096) × ((b : ℕ) → get_or l.held b None ≡ cond (ltb b l.b) (body_mark_by l.marks (get_or l.bodies b None)) None)
+abbrev pub invariant-loop-mark : goal.invariant-loop-mark
+invariant-loop-mark l =
+    ((b : ℕ) → b < l.mark-index → get_or l.mark-items b None ≡ body_mark_by l.marks (get_or l.bodies b None))
+    × ((b : ℕ) → l.mark-index ≤ b → get_or l.mark-items b None ≡ get_or l.bodies b None)

@@ -1,4 +1,4 @@
-use Rattle.std.proofs.Common.{◌≡◌, ℕ, [], ◌∷◌, ap, arith}
+use Rattle.std.proofs.Common.{◌≡◌, ℕ, [], ◌∷◌, ap, ◌∙◌, arith}
 use Rattle.layout.specs.Sizes.{sizes}
 use Rattle.layout.proofs.Numbers.{length_numbers}
 use Rattle.rule.specs.Agree.{Shown, seen, from, count}
@@ -14,19 +14,23 @@ loop-k-preserved g c =
     let z = sizes c.args.g.now in
     let m = g.D.Device.model c.args.device.now in
     let k = g.D.Device.model c.loop-k.device in
-    let r = copied c.args.slot.now in
-    let h = c.args.owner in
-    let e = c.in_ok-count.ensures in (
-      still_then m k _ c.loop-k.invariant.0 e.0,
-      adds_more (λ (sh : Shown). leaf_rows (seen z sh) h r (c.loop-k.k ∷ [])) m k c.loop-k.k 1 _ _ _ _ _ _ _ _ _ c.loop-k.invariant.0 (omega arith)
-          (leaves_more (seen z m.shown) h r c.loop-k.k) c.loop-k.invariant.1 e.1,
-    )
+    let r = copied c.args.node.now.slot in
+    let h = c.args.node.now.handle in
+    let v = c.loop-k.invariant in
+    let e = c.in_ok-check_leaf.ensures in
+    record {
+      still = still_then m k _ v.still e.added.0;
+      adds = adds_more (λ (sh : Shown). leaf_rows (seen z sh) h r (c.loop-k.k ∷ [])) m k c.loop-k.k 1 _ _ _ _ _ _ _ _ _ v.still (omega arith)
+          (leaves_more (seen z m.shown) h r c.loop-k.k) v.adds e.added.1;
+      same = e.same ∙ v.same;
+    }
 
-pub returns : goal.returns
-returns g c =
+pub returns-clause-added : goal.returns-clause-added
+returns-clause-added g c =
     let v = seen (sizes c.args.g.now) (g.D.Device.model c.args.device.now).shown in
-    let r = copied c.args.slot.now in
-    let all : c.loop-k.k ≡ count r = omega (arith, length_numbers c.args.slot.now.count c.args.slot.now.numbers) in (
-      c.loop-k.invariant.0,
-      adds_is c.loop-k.k 65535 _ _ _ _ _ _ (omega arith) (ap (λ (n : ℕ). leaf_rows v c.args.owner r (from 0 n)) all) c.loop-k.invariant.1,
+    let h = c.args.node.now.handle in
+    let r = copied c.args.node.now.slot in
+    let all : c.loop-k.k ≡ count r = omega (arith, length_numbers c.args.node.now.slot.count c.args.node.now.slot.numbers) in (
+      c.loop-k.invariant.still,
+      adds_is c.loop-k.k 65535 _ _ _ _ _ _ (omega arith) (ap (λ (n : ℕ). leaf_rows v h r (from 0 n)) all) c.loop-k.invariant.adds,
     )

@@ -9,5 +9,5 @@ use Rattle.walk.proofs.entry.find_entry.Given as goal
 abbrev pub invariant-loop-k : goal.invariant-loop-k
 invariant-loop-k g l =
     Still (g.D.Device.model l.initial.device) (g.D.Device.model l.device)
-    × (first_hit (sizes l.g) (shows l.g (g.D.Device.model l.initial.device)) l.folder l.name (places (shows l.g (g.D.Device.model l.initial.device)) l.folder (copied l.slot))
-    ≡ first_hit (sizes l.g) (shows l.g (g.D.Device.model l.initial.device)) l.folder l.name (places_over (shows l.g (g.D.Device.model l.initial.device)) l.folder (copied l.slot) (from l.k (l.slot.count - l.k))))
+    × (first_hit (sizes l.g) (shows l.g (g.D.Device.model l.initial.device)) l.folder.handle l.name (places (shows l.g (g.D.Device.model l.initial.device)) l.folder.handle (copied l.folder.slot))
+    ≡ first_hit (sizes l.g) (shows l.g (g.D.Device.model l.initial.device)) l.folder.handle l.name (places_over (shows l.g (g.D.Device.model l.initial.device)) l.folder.handle (copied l.folder.slot) (from l.k (l.folder.slot.count - l.k))))

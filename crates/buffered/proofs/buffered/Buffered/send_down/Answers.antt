@@ -1,9 +1,10 @@
-use Rattle.std.proofs.Common.{refl}
+use Rattle.std.proofs.Common.{sym, refl}
 use Rattle.buffered.proofs.Buffers.{sent_from, halted_from}
 use Rattle.buffered.proofs.buffered.Buffered.send_down.Goals as goal
 
-pub returns-in-Ok : goal.returns-in-Ok
-returns-in-Ok g c = sent_from _ _ _ _ c.requires.0 _ c.waiting_at-put.ensures _ c.requires.1 c.in-Ok.ensures
+pub returns-then-is_err : goal.returns-then-is_err
+returns-then-is_err g c =
+    (refl, halted_from _ _ _ _ _ c.requires.0 _ _ (sym c.if-is_err.ensures.value) c.write.ensures)
 
-pub returns-in-Err : goal.returns-in-Err
-returns-in-Err g c = (refl, halted_from _ _ _ _ c.requires.0 _ c.waiting_at-put.ensures _ _ c.in-Err.ensures)
+pub returns : goal.returns
+returns g c = sent_from _ _ _ _ _ c.requires.0 _ _ (sym c.if-is_err.ensures.value) c.requires.1 c.write.ensures

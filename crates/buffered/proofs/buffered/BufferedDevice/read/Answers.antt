@@ -1,44 +1,22 @@
-use Rattle.std.proofs.Common.{◌<◌, Ok, sym, refl, ap, arith}
+use Rattle.std.proofs.Common.{◌≡◌, ◌<◌, Ok, sym, ap, arith, rules}
 use Rattle.buffered.specs.Buffered.{contents}
-use Rattle.buffered.specs.Steps.{waits, asked}
-use Rattle.buffered.proofs.Buffers.{alone, read_fault, read_found, read_absent, read_count, same_stayed, stayed_below}
+use Rattle.buffered.specs.Steps.{met, waits}
+use Rattle.buffered.proofs.Buffers.{alone, read_below, read_found, same_stayed}
 use Rattle.buffered.proofs.buffered.BufferedDevice.read.Goals as goal
+use Rattle.buffered.proofs.buffered.BufferedDevice.read.Goals.{in-Err-PowerGone, in_default-matches, in_default-matches-2}
 
 pub returns-in-Some : goal.returns-in-Some
 returns-in-Some g c =
     let ws = c.args.self.now.table in
     let m = g.D.Device.model c.args.self.now.below in
     let l : c.args.at.0 < m.count = omega arith in
-    let f = c.in-Some.ensures in
-    let is = c.waiting_at.ensures in
+    let h = c.in-Some.ensures in
     record {
-      answer = record { within = l; bytes = read_found ws m _ _ _ f is; stayed = same_stayed ws _ m c.if-self.false };
-      exact = waits c.if-self.false l _ f (ap Ok (sym (ap contents is))) (alone ws _ m);
-      inside = λ q. q;
+      answer = record { within = l; bytes = read_found ws m _ _ _ h.found h.is; stayed = same_stayed ws _ m c.if-self.false };
+      exact = waits c.if-self.false l _ h.found (ap Ok (sym (ap contents h.is))) (alone ws _ m);
     }
 
-pub returns-in-Ok : goal.returns-in-Ok
-returns-in-Ok g c =
-    let ws = c.args.self.now.table in
-    let m = g.D.Device.model c.args.self.now.below in
-    let n = g.D.Device.model c.read.new.self in
-    let h = c.in-Ok.ensures in
-    let none = c.in_default.ensures in
-    record {
-      answer = record { within = h.within; bytes = read_absent ws m _ _ none h.bytes; stayed = stayed_below ws _ m n c.if-self.false h.stayed };
-      exact = asked c.if-self.false h.within none h refl c.if-self.false;
-      inside = λ q. rw h.stayed.kept.count q;
-    }
-
-pub returns-in-Err : goal.returns-in-Err
-returns-in-Err g c =
-    let ws = c.args.self.now.table in
-    let m = g.D.Device.model c.args.self.now.below in
-    let n = g.D.Device.model c.read.new.self in
-    let h = c.in-Err.ensures in
-    let l : c.args.at.0 < m.count = omega arith in
-    record {
-      answer = read_fault ws _ _ m n _ _ c.if-self.false c.is_power_gone-self.ensures h;
-      exact = asked c.if-self.false l c.in_default.ensures h refl c.is_power_gone-self.ensures;
-      inside = λ q. rw (read_count m n _ _ h) q;
-    }
+pub returns-clause-answer : goal.returns-clause-answer
+returns-clause-answer g c =
+    let is : c.match-matches.self ≡ met c.read-answer.result = elim c.match-matches.branch [ in-Err-PowerGone w ↦ search rules | in_default-matches w ↦ search rules | in_default-matches-2 w ↦ search rules ] in
+    read_below _ _ _ _ _ _ _ c.if-self.false is (omega arith) c.in_default.ensures c.read-answer.ensures

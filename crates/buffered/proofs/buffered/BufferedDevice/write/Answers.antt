@@ -1,5 +1,5 @@
 use Rattle.std.proofs.Common.{◌<◌, arith}
-use Rattle.buffered.proofs.Buffers.{written_placed, accepted_placed, inside_placed}
+use Rattle.buffered.proofs.Buffers.{written_placed, accepted_placed}
 use Rattle.buffered.proofs.buffered.BufferedDevice.write.Goals as goal
 
 pub returns : goal.returns
@@ -8,6 +8,5 @@ returns g c =
     let l : c.args.at.0 < (g.D.Device.model c.args.self.now.below).count = omega arith in
     record {
       answer = written_placed _ _ _ _ _ _ _ _ _ c.if-self.false l h;
-      exact = λ inside. accepted_placed _ _ _ _ _ _ _ _ _ c.if-self.false h;
-      inside = λ q. inside_placed _ _ _ _ _ _ _ _ _ l h q;
+      exact = accepted_placed _ _ _ _ _ _ _ _ _ c.if-self.false h;
     }

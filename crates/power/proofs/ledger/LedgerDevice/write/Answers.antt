@@ -1,26 +1,20 @@
-use Rattle.std.proofs.Common.{ℕ, ◌<◌, Option, sym, refl, ap, ◌∙◌, inr, arith}
+use Rattle.std.proofs.Common.{◌≡◌, ◌<◌, ap, ◌∙◌, refl, inr, arith}
 use Rattle.power.specs.View.{view, blocks}
 use Rattle.power.specs.Calls.{noted, with_left}
-use Rattle.power.proofs.Ledgers.{accepted, accepted_answer, broken, broken_answer}
+use Rattle.power.proofs.Ledgers.{written_noted, torn_noted}
 use Rattle.power.proofs.ledger.LedgerDevice.write.Goals as goal
+use Rattle.power.proofs.ledger.LedgerDevice.write.Goals.{in-Some, in_default}
 
-pub returns-then-not-spent : goal.returns-then-not-spent
-returns-then-not-spent c =
-    let v = view c.args.self.now in
-    let b = c.args.at in
-    let x = c.args.bytes.now in
-    let l : b.0 < blocks v = omega arith in
-    let more = sym c.if-not-spent.ensures in
-    let left = ap (λ (o : Option ℕ). noted (record { block = b; bytes = x }) (with_left v o)) c.fewer-self.ensures in
-    let p = accepted v b x c.if-self.false l _ more (c.note.ensures ∙ left) in
-    record { answer = p.0; exact = accepted_answer v b x c.if-self.false l tt more; after = p.1 }
+pub returns-then-eq-2-clause-answer : goal.returns-then-eq-2-clause-answer
+returns-then-eq-2-clause-answer c =
+    let l : c.args.at.0 < blocks (view c.args.self.now) = omega arith in
+    (refl, inr (torn_noted (view c.args.self.now) c.args.at c.args.bytes.now l _ c.note.ensures))
 
-pub returns-in-MayStand : goal.returns-in-MayStand
-returns-in-MayStand c =
+pub returns-clause-answer : goal.returns-clause-answer
+returns-clause-answer c =
     let v = view c.args.self.now in
-    let b = c.args.at in
-    let x = c.args.bytes.now in
-    let l : b.0 < blocks v = omega arith in
-    let none = sym c.if-not-spent.ensures in
-    let p = broken v b x c.if-self.false l _ none c.in-MayStand.is c.note-in-MayStand.ensures in
-    record { answer = (refl, inr p.0); exact = broken_answer v b x c.if-self.false l tt none; after = p.1 }
+    let u = view c.match-self.self in
+    let l : c.args.at.0 < blocks v = omega arith in
+    let fuse : u ≡ with_left v u.left = elim c.match-self.branch [ in-Some w ↦ rw w.self-is | in_default w ↦ rw w.self-is ] in
+    written_noted v c.args.at c.args.bytes.now l _ u.left c.if-self.false
+    (c.note-2.ensures ∙ ap (noted (record { block = c.args.at; bytes = c.args.bytes.now })) fuse)
