@@ -2,7 +2,6 @@
 #![tactic(auto)]
 
 use anyhow::anyhow;
-use std::rt::Runtime;
 use std::{env, fs};
 
 mod blocks;
@@ -17,7 +16,7 @@ const HELP: &str = "gildreyk: looks into a stand's card
   gildreyk help           this text";
 
 // The bytes of the image that the word behind a command names.
-fn load(rt: &impl Runtime, command: &str, name: Option<String>) -> anyhow::Result<Vec<u8>> {
+fn load(rt: &HostRuntime, command: &str, name: Option<String>) -> anyhow::Result<Vec<u8>> {
     match name {
         Some(path) => Ok(fs::read(rt, path.as_str())?),
         None => Err(anyhow!("{command}: name an image")),
@@ -25,7 +24,7 @@ fn load(rt: &impl Runtime, command: &str, name: Option<String>) -> anyhow::Resul
 }
 
 // Does what the words of the command line ask for.
-fn run(rt: &impl Runtime) -> anyhow::Result<()> {
+fn run(rt: &HostRuntime) -> anyhow::Result<()> {
     let mut words = env::args(rt)?;
     let _program = words.next();
     let Some(command) = words.next() else {
@@ -33,11 +32,15 @@ fn run(rt: &impl Runtime) -> anyhow::Result<()> {
     };
     match command.as_str() {
         "blocks" => blocks::print(rt, load(rt, "blocks", words.next())?.as_slice()),
-        "tree" => tree::print(rt, load(rt, "tree", words.next())?.as_mut_slice()),
+        "tree" => tree::print(
+            rt,
+            rt.alloc(),
+            load(rt, "tree", words.next())?.as_mut_slice(),
+        ),
         "all" => {
             let mut image = load(rt, "all", words.next())?;
             blocks::print(rt, image.as_slice())?;
-            tree::print(rt, image.as_mut_slice())
+            tree::print(rt, rt.alloc(), image.as_mut_slice())
         }
         "help" => Ok(println!(rt; "{HELP}")?),
         _ => Err(anyhow!("no such command: try gildreyk help")),

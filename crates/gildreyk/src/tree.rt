@@ -6,6 +6,7 @@ use card::inner::Status;
 use card::opened::{Opened, open};
 use device::plain::Plain;
 use listing::line::{DamageLine, EntryLine, NO_DAMAGE, NO_ENTRY};
+use std::alloc::Global;
 use std::collections::BTreeSet;
 use std::io;
 use walk::path::ROOT;
@@ -30,13 +31,14 @@ struct Todo {
 #[derive(Drop)]
 struct Tree<'a, R> {
     rt: &'a R,
+    heap: Global,
     card: Opened<Plain<'a>>,
     damage: Vec<DamageLine>,
     met: BTreeSet<SlotNo>,
     todo: Vec<Todo>,
 }
 
-impl<R: Print + Alloc> Tree<'_, R> {
+impl<R: Print> Tree<'_, R> {
     fn indent(&self, depth: u16) -> io::Result<()> {
         for _ in 0..depth {
             print!(self.rt; "  ")?;
@@ -75,7 +77,7 @@ impl<R: Print + Alloc> Tree<'_, R> {
 
     // Puts the entries of a folder on the list, the last first.
     fn push_entries(&mut self, folder: &Handle, depth: u16) -> anyhow::Result<()> {
-        let mut lines = vec![in self.rt.alloc(); NO_ENTRY; ENTRIES]?;
+        let mut lines = vec![in self.heap; NO_ENTRY; ENTRIES]?;
         let count = self.card.list(folder, &mut lines)?;
         lines.truncate(count);
         for entry in lines.iter().rev() {
@@ -142,8 +144,7 @@ fn root_line() -> EntryLine {
 }
 
 // Prints the card in an image; a bad card is an error.
-pub fn print(rt: &(impl Print + Alloc), image: &mut [u8]) -> anyhow::Result<()> {
-    let heap = rt.alloc();
+pub fn print(rt: &impl Print, heap: Global, image: &mut [u8]) -> anyhow::Result<()> {
     let mut card = open(Plain::new(image));
     let mut damage = vec![in heap; NO_DAMAGE; LEAVES]?;
     let count = card.damage(&mut damage)?;
@@ -154,6 +155,7 @@ pub fn print(rt: &(impl Print + Alloc), image: &mut [u8]) -> anyhow::Result<()> 
     };
     let mut tree = Tree {
         rt,
+        heap,
         card,
         damage,
         met: BTreeSet::new(heap),
