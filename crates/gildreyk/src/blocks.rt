@@ -71,7 +71,7 @@ fn print_block(rt: &impl Print, g: &Geometry, n: u16, bytes: &[u8; 512]) -> io::
 // Prints the blocks of the card that the image's cover tells of.
 pub fn print(rt: &impl Print, image: &[u8]) -> anyhow::Result<()> {
     let (blocks, _) = image.as_chunks::<512>();
-    let Some(g) = blocks.first().and_then(parse_cover) else {
+    let Some(g) = blocks.first().and_then(|block| parse_cover(block)) else {
         return Err(anyhow!("the image has no cover that is well formed"));
     };
     let there = blocks.len();

@@ -17,10 +17,10 @@ const HELP: &str = "gildreyk: looks into a stand's card
 
 // The bytes of the image that the word behind a command names.
 fn load(rt: &HostRuntime, command: &str, name: Option<String>) -> anyhow::Result<Vec<u8>> {
-    match name {
-        Some(path) => Ok(fs::read(rt, path.as_str())?),
-        None => Err(anyhow!("{command}: name an image")),
-    }
+    let Some(path) = name else {
+        return Err(anyhow!("{command}: name an image"));
+    };
+    Ok(fs::read(rt, path.as_str())?)
 }
 
 // Does what the words of the command line ask for.

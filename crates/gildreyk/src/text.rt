@@ -2,6 +2,7 @@
 use std::fmt;
 
 // A name, with a '?' for each byte that is no plain ASCII.
+#[derive(Clone, Copy)]
 pub struct Name<'a>(pub &'a [u8]);
 
 impl fmt::Display for Name<'_> {

@@ -29,16 +29,16 @@ struct Todo {
 // What is kept while the tree of a card is printed: the leaves that are not good, the folders that were met, and the
 // lines that are still to be printed, the next one last.
 #[derive(Drop)]
-struct Tree<'a, R> {
+struct Tree<'a, 'i, R> {
     rt: &'a R,
     heap: Global,
-    card: Opened<Plain<'a>>,
+    card: Opened<Plain<'i>>,
     damage: Vec<DamageLine>,
     met: BTreeSet<SlotNo>,
     todo: Vec<Todo>,
 }
 
-impl<R: Print> Tree<'_, R> {
+impl<R: Print> Tree<'_, '_, R> {
     fn indent(&self, depth: u16) -> io::Result<()> {
         for _ in 0..depth {
             print!(self.rt; "  ")?;
