@@ -50,7 +50,7 @@ CLAUSE = r"^\s*(requires|ensures)"
 
 # 1. Enums, flags and numbers in their place.
 show("1a enums that derive no comparison", spans(r"#\[derive\((?:(?!PartialEq)[^)])*\)\]\s*(?:pub |pub\(crate\) )?enum \w+"))
-show("1b a flag beside what is written", [x for x in spans(FUNCTION + r"[^{;]*?-> (?:bool|Option<usize>)") if "&mut [" in x[2]])
+show("1b a flag beside what is written", [x for x in spans(FUNCTION + r"[^{]*?-> (?:bool\b|usize\b|Option<usize>)") if "&mut [" in x[2]])
 show("1c numbers for kinds or refusals", lines(r"number\(\) ==|number\(\) as|kind: u(8|16)|: \[?u\d+(; \d)?\]? = |type Row|-> u8|-> u16|; 6\]", CLAUSE))
 show("1d an Option or Result rebuilt by a match", lines(r"None => None|None => \{\}|Ok\(\(\)\) => Ok\(\(\)\)|None => Ok\(None\)|(None|Err\(_\)) => false|Some\(_\) => return|Ok\((\w+)\) => Ok\(\w+\)|Err\(e\) => Err\(e\)|Some\((\w+)\) => Some\("))
 show("1e flags", lines(r"^\s*(pub )?\w+: bool,|: bool[,)]", CLAUSE))

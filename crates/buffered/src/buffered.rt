@@ -53,6 +53,7 @@ impl<D: Device> Buffered<D> {
     }
 
     // A place for a block: its own, or a free one, or the one that the highest block leaves.
+    // Kept: that the power is on is asked of the two steps inside a call; the card itself may have lost it.
     fn place(&mut self, at: BlockNo) -> Result<usize, Fault>
         requires { self.old.gone ≡ false }
         ensures { MatchResult result (λ i. Placed self.old.table at.0 i self.new.table self.old.gone self.new.gone (D.Device.model self.old.below) (D.Device.model self.new.below)) (λ e. (e ≡ PowerGone at) × NoPlace self.old.table at.0 self.new.table self.old.gone self.new.gone (D.Device.model self.old.below) (D.Device.model self.new.below)) }

@@ -8,25 +8,21 @@ use card::opened::open;
 use device::Device;
 use device::plain::Plain;
 use listing::line::{NO_DAMAGE, NO_ENTRY};
+use std::mem;
 use walk::path::ROOT;
 
-// The refusal's number, or 0.
-fn number<A: Drop>(answer: Result<A, Refusal>) -> u8 {
-    match answer {
-        Ok(_) => 0,
-        Err(e) => e.number(),
-    }
+// The numbers of the refusals that find, path, list, status, damage and read meet, if they meet one.
+pub type Numbers = [Option<u8>; 6];
+
+fn number<A: Drop>(answer: Result<A, Refusal>) -> Option<u8> {
+    answer.err().map(|refusal| refusal.number())
 }
 
-fn path_number(answer: Result<Handle, PathRefusal>) -> u8 {
-    match answer {
-        Ok(_) => 0,
-        Err(e) => e.lower.number(),
-    }
+fn path_number(answer: Result<Handle, PathRefusal>) -> Option<u8> {
+    answer.err().map(|refusal| refusal.lower.number())
 }
 
-// What find, path, list, status, damage and read are refused with, or 0.
-pub fn refusals(image: &mut [u8], name: &[u8], path: &[u8], h: &Handle) -> [u8; 6] {
+pub fn refusals(image: &mut [u8], name: &[u8], path: &[u8], h: &Handle) -> Numbers {
     let mut card = open(Plain::new(image));
     let mut entries = [NO_ENTRY; 4];
     let mut damage = [NO_DAMAGE; 4];
@@ -43,9 +39,7 @@ pub fn refusals(image: &mut [u8], name: &[u8], path: &[u8], h: &Handle) -> [u8; 
 
 // How many reads were counted; counts anew.
 fn taken(card: &mut Core<Counting<Plain>>) -> u32 {
-    let reads = card.device.reads;
-    card.device.reads = 0;
-    reads
+    mem::replace(&mut card.device.reads, 0)
 }
 
 // How many blocks open, find, path, list, status, damage and read have read.

@@ -1,12 +1,12 @@
 // Images that no card of ours would have: every call answers or refuses, and leaves each byte.
-use crate::calls::refusals;
+use crate::calls::{Numbers, refusals};
 use crate::image::{SIZE, example, handle, put, put_entry, put_folder, put_slot};
 use base::number::BlockNo;
 use base::owner::{Handle, Kind};
 use std::test::Fail;
 
 // The refusals of the calls, once the image is seen to be as it was.
-fn asked(image: &mut [u8; SIZE], name: &[u8], path: &[u8], h: &Handle) -> Result<[u8; 6], Fail> {
+fn asked(image: &mut [u8; SIZE], name: &[u8], path: &[u8], h: &Handle) -> Result<Numbers, Fail> {
     let before = *image;
     let answers = refusals(image, name, path, h);
     if *image != before {
@@ -26,7 +26,7 @@ fn folders_in_a_cycle_are_not_reached(rt: HostRuntime) -> Result<(), Fail> {
     put_folder(&mut image, 9, loft, b"mass", &mass);
     assert_eq!(rt;
         asked(&mut image, b"mass", b"mass/loft", &mass)?,
-        [9, 9, 0, 0, 0, 6]
+        [Some(9), Some(9), None, None, None, Some(6)]
     );
     Ok(())
 }
@@ -40,11 +40,11 @@ fn a_folder_in_itself_and_an_entry_for_the_root(rt: HostRuntime) -> Result<(), F
     put_entry(&mut image, 5, 2, b"root", &handle(0, 1));
     assert_eq!(rt;
         asked(&mut image, b"mass", b"mass/mass", &mass)?,
-        [9, 9, 0, 0, 0, 6]
+        [Some(9), Some(9), None, None, None, Some(6)]
     );
     assert_eq!(rt;
         asked(&mut image, b"root", b"root/alto", &handle(0, 1))?,
-        [9, 9, 0, 0, 0, 6]
+        [Some(9), Some(9), None, None, None, Some(6)]
     );
     Ok(())
 }
@@ -69,12 +69,12 @@ fn numbers_out_of_range_make_a_slot_ill_formed(rt: HostRuntime) -> Result<(), Fa
         let mut image = with_number(number);
         assert_eq!(rt;
             asked(&mut image, b"alto", b"alto", &handle(1, 2))?,
-            [9, 9, 5, 5, 0, 5]
+            [Some(9), Some(9), Some(5), Some(5), None, Some(5)]
         );
     }
     assert_eq!(rt;
         asked(&mut example(), b"mass", b"mass/bass", &handle(65535, 4))?,
-        [0, 0, 5, 5, 0, 5]
+        [None, None, Some(5), Some(5), None, Some(5)]
     );
     Ok(())
 }
@@ -82,6 +82,7 @@ fn numbers_out_of_range_make_a_slot_ill_formed(rt: HostRuntime) -> Result<(), Fa
 #[test]
 fn any_one_byte_may_be_another(rt: HostRuntime) -> Result<(), Fail> {
     let mut image = example();
+    // Kept: the whole image is read between the two writes of one byte, so that no iterator can hold it.
     for at in 0..SIZE {
         let was = image[at];
         image[at] = was ^ 255;
@@ -102,9 +103,9 @@ fn stir(x: u32) -> u32 {
 // Fills the image from a place on, and answers the seed for the next.
 fn scramble(image: &mut [u8; SIZE], from: usize, seed: u32) -> u32 {
     let mut x = seed;
-    for at in from..SIZE {
+    for byte in &mut image[from..] {
         x = stir(x);
-        image[at] = (x % 256) as u8;
+        *byte = (x % 256) as u8;
     }
     x
 }
@@ -120,7 +121,7 @@ fn random_blocks_are_refused_or_read(rt: HostRuntime) -> Result<(), Fail> {
         seed = scramble(&mut image, 1024, seed);
         put(&mut image, 0, &good[0..1024]);
         let answers = asked(&mut image, b"mass", b"mass/bass", &handle(0, 1))?;
-        assert_eq!(rt; answers, [9, 9, 0, 0, 0, 6]);
+        assert_eq!(rt; answers, [Some(9), Some(9), None, None, None, Some(6)]);
     }
     Ok(())
 }

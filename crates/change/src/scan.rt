@@ -23,7 +23,8 @@ use walk::node::Node;
 use walk::path::ROOT;
 
 // What a scan looks for: any sound entry, a sound entry with the name, or a place that has no sound entry.
-#[derive(Clone, Copy)]
+// Kept: a closure would say what is sought, but the card library has none, and the three are all that there are.
+#[derive(Clone, Copy, PartialEq, Eq, Debug)]
 pub enum Sought<'a> {
     Entry,
     Named(&'a [u8]),

@@ -14,6 +14,13 @@ pub struct Plain<'a> {
     image: &'a mut [u8],
 }
 
+// How many blocks an image has: the whole ones, at most 4096.
+pub fn whole_blocks(image: &[u8]) -> u16
+    ensures { result ≡ blocks_in image.now }
+{
+    (image.len() / 512).min(4096) as u16
+}
+
 impl<'a> Plain<'a> {
     pub fn new(image: &'a mut [u8]) -> Plain<'a>
         ensures { (result.image.now ≡ image.old) × (result.image.ghost_name ≡ image.entry.ghost_name) }
@@ -31,7 +38,7 @@ impl<'a> Plain<'a> {
     fn blocks(&self) -> u16
         ensures { result ≡ blocks_in self.now.image.now }
     {
-        (self.image.len() / 512).min(4096) as u16
+        whole_blocks(self.image)
     }
 
     fn fetch(&self, b: u16) -> [u8; 512]

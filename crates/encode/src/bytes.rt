@@ -7,6 +7,7 @@ ghost use Rattle.encode.specs.Heads.{cover_head, slot_head_bytes, body_byte, bod
 use base::number::Identity;
 use base::owner::{Back, Handle, Kind};
 
+// Kept: these two are rows of the format's table of first bytes; one function would take a flag for slot or body.
 fn slot_byte(kind: Kind) -> u8
     ensures { result ≡ slot_byte kind }
 {

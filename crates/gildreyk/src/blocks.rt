@@ -1,27 +1,18 @@
 // A line for each block of an image.
-use crate::text::print_name;
+use crate::text::Name;
 use anyhow::anyhow;
 use base::number::BlockNo;
-use base::owner::Back;
-use entries::entry::{Cell, cell_bytes, parse_cell};
+use base::owner::{Back, Kind};
+use entries::entry::{Cell, parse_cell};
 use layout::block::{Block, Slot, parse, parse_cover};
 use layout::geometry::Geometry;
+use std::io;
 
-// The bytes of a block of the image; zeros past its end.
-fn block_at(image: &[u8], n: usize) -> [u8; 512] {
-    let mut bytes = [0u8; 512];
-    let start = 512 * n.min(4095);
-    if start + 512 <= image.len() {
-        bytes.copy_from_slice(&image[start..start + 512]);
-    }
-    bytes
-}
-
-fn print_slot(rt: &HostRuntime, n: u16, kind: &str, slot: &Slot) -> anyhow::Result<()> {
+fn print_slot(rt: &impl Print, n: u16, kind: Kind, slot: &Slot) -> io::Result<()> {
     let s = n.saturating_sub(1);
-    let identity = slot.identity.0;
-    let parent = slot.parent.slot.0;
-    let above = slot.parent.identity.0;
+    let identity = slot.identity;
+    let parent = slot.parent.slot;
+    let above = slot.parent.identity;
     let count = slot.count();
     print!(rt;
         "block {n}: {kind} slot {s}, identity {identity}, in slot {parent} of identity {above}, leaves {count}"
@@ -32,38 +23,26 @@ fn print_slot(rt: &HostRuntime, n: u16, kind: &str, slot: &Slot) -> anyhow::Resu
             print!(rt; " @{b}")?;
         }
     }
-    println!(rt; "")?;
-    Ok(())
+    println!(rt; "")
 }
 
-fn print_body(
-    rt: &HostRuntime,
-    n: u16,
-    kind: &str,
-    back: &Back,
-    length: usize,
-) -> anyhow::Result<()> {
-    let slot = back.owner.slot.0;
-    let identity = back.owner.identity.0;
-    let leaf = back.leaf.0;
+fn print_body(rt: &impl Print, n: u16, kind: Kind, back: &Back, length: usize) -> io::Result<()> {
+    let slot = back.owner.slot;
+    let identity = back.owner.identity;
+    let leaf = back.leaf;
     println!(rt;
         "block {n}: {kind} body, of slot {slot} identity {identity}, leaf {leaf}, length {length}"
-    )?;
-    Ok(())
+    )
 }
 
-fn print_entries(rt: &HostRuntime, g: &Geometry, payload: &[u8]) -> anyhow::Result<()> {
-    for place in 0..15usize {
-        let Some(bytes) = cell_bytes(payload, place) else {
-            return Ok(());
-        };
+fn print_entries(rt: &impl Print, g: &Geometry, payload: &[u8]) -> io::Result<()> {
+    for (place, bytes) in payload.chunks_exact(32).enumerate() {
         match parse_cell(g, bytes) {
             Cell::Used(entry) => {
-                let slot = entry.child.slot.0;
-                let identity = entry.child.identity.0;
-                print!(rt; "  place {place}: ")?;
-                print_name(rt, entry.name)?;
-                println!(rt; " -> slot {slot} identity {identity}")?;
+                let name = Name(entry.name);
+                let slot = entry.child.slot;
+                let identity = entry.child.identity;
+                println!(rt; "  place {place}: {name} -> slot {slot} identity {identity}")?;
             }
             Cell::IllFormed => println!(rt; "  place {place}: ill formed")?,
             Cell::Blank => {}
@@ -72,38 +51,36 @@ fn print_entries(rt: &HostRuntime, g: &Geometry, payload: &[u8]) -> anyhow::Resu
     Ok(())
 }
 
-fn print_block(rt: &HostRuntime, g: &Geometry, n: u16, bytes: &[u8; 512]) -> anyhow::Result<()> {
+fn print_block(rt: &impl Print, g: &Geometry, n: u16, bytes: &[u8; 512]) -> io::Result<()> {
     match parse(g, BlockNo(n), bytes) {
-        Block::Blank => println!(rt; "block {n}: blank")?,
+        Block::Blank => println!(rt; "block {n}: blank"),
         Block::Cover { blocks, slots } => {
-            println!(rt; "block {n}: cover, {blocks} blocks, {slots} slots")?
+            println!(rt; "block {n}: cover, {blocks} blocks, {slots} slots")
         }
-        Block::FileSlot(slot) => print_slot(rt, n, "file", &slot)?,
-        Block::FolderSlot(slot) => print_slot(rt, n, "folder", &slot)?,
-        Block::FileBody(body) => print_body(rt, n, "file", &body.back, body.payload.len())?,
+        Block::FileSlot(slot) => print_slot(rt, n, Kind::File, &slot),
+        Block::FolderSlot(slot) => print_slot(rt, n, Kind::Folder, &slot),
+        Block::FileBody(body) => print_body(rt, n, Kind::File, &body.back, body.payload.len()),
         Block::FolderBody(body) => {
-            print_body(rt, n, "folder", &body.back, body.payload.len())?;
-            print_entries(rt, g, body.payload)?;
+            print_body(rt, n, Kind::Folder, &body.back, body.payload.len())?;
+            print_entries(rt, g, body.payload)
         }
-        Block::IllFormed => println!(rt; "block {n}: ill formed")?,
+        Block::IllFormed => println!(rt; "block {n}: ill formed"),
     }
-    Ok(())
 }
 
 // Prints the blocks of the card that the image's cover tells of.
-pub fn print(rt: &HostRuntime, image: &[u8]) -> anyhow::Result<()> {
-    let Some(g) = parse_cover(&block_at(image, 0)) else {
+pub fn print(rt: &impl Print, image: &[u8]) -> anyhow::Result<()> {
+    let (blocks, _) = image.as_chunks::<512>();
+    let Some(g) = blocks.first().and_then(parse_cover) else {
         return Err(anyhow!("the image has no cover that is well formed"));
     };
-    let there = image.len() / 512;
-    let blocks = g.blocks;
-    if there < blocks as usize {
-        println!(rt; "the image has {there} of the card's {blocks} blocks")?;
+    let there = blocks.len();
+    let all = g.blocks;
+    if there < all as usize {
+        println!(rt; "the image has {there} of the card's {all} blocks")?;
     }
-    for n in 0..blocks {
-        if (n as usize) < there {
-            print_block(rt, &g, n, &block_at(image, n as usize))?;
-        }
+    for (n, block) in (0..all).zip(blocks) {
+        print_block(rt, &g, n, block)?;
     }
     Ok(())
 }

@@ -32,11 +32,15 @@ fn run(rt: &HostRuntime) -> anyhow::Result<()> {
     };
     match command.as_str() {
         "blocks" => blocks::print(rt, load(rt, "blocks", words.next())?.as_slice()),
-        "tree" => tree::print(rt, load(rt, "tree", words.next())?.as_mut_slice()),
+        "tree" => tree::print(
+            rt,
+            rt.alloc(),
+            load(rt, "tree", words.next())?.as_mut_slice(),
+        ),
         "all" => {
             let mut image = load(rt, "all", words.next())?;
             blocks::print(rt, image.as_slice())?;
-            tree::print(rt, image.as_mut_slice())
+            tree::print(rt, rt.alloc(), image.as_mut_slice())
         }
         "help" => Ok(println!(rt; "{HELP}")?),
         _ => Err(anyhow!("no such command: try gildreyk help")),

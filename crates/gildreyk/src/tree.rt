@@ -1,14 +1,14 @@
 // The tree of a card: its folders and files, their leaves, and what is damaged.
-use crate::text::{print_name, refusal_text};
-use anyhow::anyhow;
+use crate::text::Name;
 use base::number::{LeafNo, SlotNo};
 use base::owner::{Handle, Kind};
-use base::refusal::Refusal;
 use card::inner::Status;
 use card::opened::{Opened, open};
-use device::Device;
 use device::plain::Plain;
 use listing::line::{DamageLine, EntryLine, NO_DAMAGE, NO_ENTRY};
+use std::alloc::Global;
+use std::collections::BTreeSet;
+use std::io;
 use walk::path::ROOT;
 
 // A folder has at most 64 leaves of 15 entries; a card has at most 256 slots of 64 leaves.
@@ -26,169 +26,110 @@ struct Todo {
     entry: EntryLine,
 }
 
-// A refusal as the command's error.
-fn refuse<A: Drop>(rt: &HostRuntime, answer: Result<A, Refusal>) -> anyhow::Result<A> {
-    match answer {
-        Ok(a) => Ok(a),
-        Err(e) => {
-            let why = refusal_text(rt.alloc(), &e)?;
-            Err(anyhow!("{why}"))
+// What is kept while the tree of a card is printed: the leaves that are not good, the folders that were met, and the
+// lines that are still to be printed, the next one last.
+#[derive(Drop)]
+struct Tree<'a, R> {
+    rt: &'a R,
+    heap: Global,
+    card: Opened<Plain<'a>>,
+    damage: Vec<DamageLine>,
+    met: BTreeSet<SlotNo>,
+    todo: Vec<Todo>,
+}
+
+impl<R: Print> Tree<'_, R> {
+    fn indent(&self, depth: u16) -> io::Result<()> {
+        for _ in 0..depth {
+            print!(self.rt; "  ")?;
+        }
+        Ok(())
+    }
+
+    // A leaf of a file: its length, or why it cannot be read.
+    fn print_leaf(&mut self, file: &Handle, leaf: LeafNo) -> io::Result<()> {
+        let mut buffer = [0u8; 496];
+        match self.card.read(file, leaf, &mut buffer) {
+            Ok(length) => println!(self.rt; "leaf {leaf}: good, {length} bytes"),
+            Err(refusal) => println!(self.rt; "leaf {leaf}: not good: {refusal}"),
         }
     }
-}
 
-fn print_indent(rt: &HostRuntime, depth: u16) -> anyhow::Result<()> {
-    for _ in 0..depth {
-        print!(rt; "  ")?;
-    }
-    Ok(())
-}
-
-// A leaf of a file: its length, or why it cannot be read.
-fn print_leaf(
-    rt: &HostRuntime,
-    card: &mut Opened<Plain>,
-    file: &Handle,
-    leaf: LeafNo,
-) -> anyhow::Result<()> {
-    let mut buffer = [0u8; 496];
-    let k = leaf.0;
-    match card.read(file, leaf, &mut buffer) {
-        Ok(length) => println!(rt; "leaf {k}: good, {length} bytes")?,
-        Err(e) => {
-            let why = refusal_text(rt.alloc(), &e)?;
-            println!(rt; "leaf {k}: not good: {why}")?;
+    fn print_leaves(&mut self, file: &Handle, count: u16, depth: u16) -> io::Result<()> {
+        for k in 0..count {
+            self.indent(depth)?;
+            self.print_leaf(file, LeafNo(k))?;
         }
+        Ok(())
     }
-    Ok(())
-}
 
-fn print_leaves(
-    rt: &HostRuntime,
-    card: &mut Opened<Plain>,
-    file: &Handle,
-    count: u16,
-    depth: u16,
-) -> anyhow::Result<()> {
-    for k in 0..count {
-        print_indent(rt, depth)?;
-        print_leaf(rt, card, file, LeafNo(k))?;
-    }
-    Ok(())
-}
-
-// The leaves of a folder that are not good: their entries are not seen.
-fn print_bad_leaves(
-    rt: &HostRuntime,
-    damage: &[DamageLine],
-    folder: &Handle,
-    depth: u16,
-) -> anyhow::Result<()> {
-    for line in damage {
-        if line.slot.0 == folder.slot.0 {
-            let k = line.leaf.0;
-            print_indent(rt, depth)?;
-            println!(rt; "leaf {k}: not good")?;
+    // The leaves of a folder that are not good: their entries are not seen.
+    fn print_bad_leaves(&self, folder: &Handle, depth: u16) -> io::Result<()> {
+        for line in &self.damage {
+            if line.slot == folder.slot {
+                let leaf = line.leaf;
+                self.indent(depth)?;
+                println!(self.rt; "leaf {leaf}: not good")?;
+            }
         }
+        Ok(())
     }
-    Ok(())
-}
 
-// Puts the entries of a folder on the list, the last first.
-fn push_entries(
-    rt: &HostRuntime,
-    card: &mut Opened<Plain>,
-    folder: &Handle,
-    depth: u16,
-    todo: &mut Vec<Todo>,
-) -> anyhow::Result<()> {
-    let mut lines = vec![in rt.alloc(); NO_ENTRY; ENTRIES]?;
-    let count = refuse(rt, card.list(folder, &mut lines))?;
-    for i in (0..count).rev() {
-        if let Some(entry) = lines.get(i) {
-            todo.push(Todo {
+    // Puts the entries of a folder on the list, the last first.
+    fn push_entries(&mut self, folder: &Handle, depth: u16) -> anyhow::Result<()> {
+        let mut lines = vec![in self.heap; NO_ENTRY; ENTRIES]?;
+        let count = self.card.list(folder, &mut lines)?;
+        lines.truncate(count);
+        for entry in lines.iter().rev() {
+            self.todo.push(Todo {
                 depth,
                 entry: *entry,
             })?;
         }
+        Ok(())
     }
-    Ok(())
-}
 
-fn print_node(
-    rt: &HostRuntime,
-    handle: &Handle,
-    status: &Status,
-    name: &[u8],
-    depth: u16,
-) -> anyhow::Result<()> {
-    let kind = match status.kind {
-        Kind::File => "file",
-        Kind::Folder => "folder",
-    };
-    let slot = handle.slot.0;
-    let identity = handle.identity.0;
-    let count = status.count;
-    print_indent(rt, depth)?;
-    print_name(rt, name)?;
-    println!(rt; " ({kind}, slot {slot}, identity {identity}, leaves {count})")?;
-    Ok(())
-}
-
-// Says whether a slot is met for the first time.
-fn is_first(seen: &mut [bool; 256], slot: SlotNo) -> bool {
-    let s = slot.0 as usize;
-    if s >= 256 || seen[s] {
-        return false;
+    fn print_node(&self, handle: &Handle, status: &Status, line: &Todo) -> io::Result<()> {
+        let name = Name(line.entry.name());
+        let kind = status.kind;
+        let slot = handle.slot;
+        let identity = handle.identity;
+        let count = status.count;
+        self.indent(line.depth)?;
+        println!(self.rt; "{name} ({kind}, slot {slot}, identity {identity}, leaves {count})")
     }
-    seen[s] = true;
-    true
-}
 
-fn name_of(entry: &EntryLine) -> &[u8] {
-    let length = (entry.length as usize).min(24);
-    &entry.name[..length]
-}
-
-// Prints a file or folder with its leaves. A folder's entries go on the list when it is first met: two entries for one
-// folder do not print all below it twice.
-fn print_next(
-    rt: &HostRuntime,
-    card: &mut Opened<Plain>,
-    damage: &[DamageLine],
-    next: &Todo,
-    seen: &mut [bool; 256],
-    todo: &mut Vec<Todo>,
-) -> anyhow::Result<()> {
-    let handle = Handle {
-        slot: next.entry.slot,
-        identity: next.entry.identity,
-    };
-    let below = next.depth.saturating_add(1);
-    let status = refuse(rt, card.status(&handle))?;
-    print_node(rt, &handle, &status, name_of(&next.entry), next.depth)?;
-    match status.kind {
-        Kind::File => print_leaves(rt, card, &handle, status.count, below),
-        Kind::Folder => {
-            if !is_first(seen, handle.slot) {
-                print_indent(rt, below)?;
-                return Ok(println!(rt; "(as above)")?);
-            }
-            print_bad_leaves(rt, damage, &handle, below)?;
-            push_entries(rt, card, &handle, below, todo)
+    // Prints a file or folder with its leaves. A folder's entries go on the list when it is first met: two entries for
+    // one folder do not print all below it twice.
+    fn print_next(&mut self, line: &Todo) -> anyhow::Result<()> {
+        let handle = Handle {
+            slot: line.entry.slot,
+            identity: line.entry.identity,
+        };
+        let below = line.depth.saturating_add(1);
+        let status = self.card.status(&handle)?;
+        self.print_node(&handle, &status, line)?;
+        if status.kind == Kind::File {
+            return Ok(self.print_leaves(&handle, status.count, below)?);
         }
+        if !self.met.insert(handle.slot)? {
+            self.indent(below)?;
+            return Ok(println!(self.rt; "(as above)")?);
+        }
+        self.print_bad_leaves(&handle, below)?;
+        self.push_entries(&handle, below)
     }
-}
 
-fn print_damage(rt: &HostRuntime, damage: &[DamageLine]) -> anyhow::Result<()> {
-    let count = damage.len();
-    println!(rt; "damaged leaves: {count}")?;
-    for line in damage {
-        let slot = line.slot.0;
-        let leaf = line.leaf.0;
-        println!(rt; "  slot {slot}, leaf {leaf}")?;
+    fn print_damage(&self) -> io::Result<()> {
+        let count = self.damage.len();
+        println!(self.rt; "damaged leaves: {count}")?;
+        for line in &self.damage {
+            let slot = line.slot;
+            let leaf = line.leaf;
+            println!(self.rt; "  slot {slot}, leaf {leaf}")?;
+        }
+        Ok(())
     }
-    Ok(())
 }
 
 fn root_line() -> EntryLine {
@@ -203,22 +144,28 @@ fn root_line() -> EntryLine {
 }
 
 // Prints the card in an image; a bad card is an error.
-pub fn print(rt: &HostRuntime, image: &mut [u8]) -> anyhow::Result<()> {
+pub fn print(rt: &impl Print, heap: Global, image: &mut [u8]) -> anyhow::Result<()> {
     let mut card = open(Plain::new(image));
-    let mut damage = vec![in rt.alloc(); NO_DAMAGE; LEAVES]?;
-    let count = refuse(rt, card.damage(&mut damage))?;
+    let mut damage = vec![in heap; NO_DAMAGE; LEAVES]?;
+    let count = card.damage(&mut damage)?;
     damage.truncate(count);
-    let mut seen = [false; 256];
-    let mut todo = Vec::new(rt.alloc());
-    todo.push(Todo {
+    let root = Todo {
         depth: 0,
         entry: root_line(),
-    })?;
+    };
+    let mut tree = Tree {
+        rt,
+        heap,
+        card,
+        damage,
+        met: BTreeSet::new(heap),
+        todo: vec![in heap; root]?,
+    };
     for _ in 0..LINES {
-        let Some(next) = todo.pop() else {
+        let Some(line) = tree.todo.pop() else {
             break;
         };
-        print_next(rt, &mut card, &damage, &next, &mut seen, &mut todo)?;
+        tree.print_next(&line)?;
     }
-    print_damage(rt, &damage)
+    Ok(tree.print_damage()?)
 }

@@ -8,6 +8,7 @@ ghost use Rattle.screen.specs.Image.{differs, looked_at};
 use base::number::BlockNo;
 use device::Device;
 use device::fault::{Fault, Synced, WHOLE};
+use device::plain::whole_blocks;
 use device::put::Put;
 
 // The whole blocks of an image, at most 4096. A write that would change a block never lands: the power is gone with it.
@@ -16,12 +17,6 @@ use device::put::Put;
 pub struct Image<'a> {
     bytes: &'a [u8],
     last: Option<Put>,
-}
-
-fn is_same(a: &[u8], b: &[u8]) -> bool
-    ensures { result ≡ same_bytes a.now b.now }
-{
-    *a == *b
 }
 
 // The bytes of a block: fewer than 512 only past the image's whole blocks.
@@ -40,20 +35,11 @@ impl<'a> Image<'a> {
         Image { bytes, last: None }
     }
 
-    fn blocks(&self) -> u16
-        ensures { result ≡ blocks_in self.now.bytes.now }
-    {
-        (self.bytes.len() / 512).min(4096) as u16
-    }
-
     // Whether the last write would change its block.
     fn is_off(&self) -> bool
         ensures { result ≡ differs self.now.bytes.now self.now.last }
     {
-        match self.last {
-            Some(put) => !is_same(&put.bytes, part(self.bytes, put.block.0)),
-            None => false,
-        }
+        matches!(self.last, Some(put) if put.bytes.as_slice() != part(self.bytes, put.block.0))
     }
 }
 
@@ -61,7 +47,7 @@ impl<'a> Device for Image<'a> {
     ghost model = { λ i. looked_at i.bytes.now i.last };
 
     fn count(&self) -> u16 {
-        self.blocks()
+        whole_blocks(self.bytes)
     }
 
     fn read(&mut self, at: BlockNo) -> Result<[u8; 512], Fault>
@@ -70,7 +56,7 @@ impl<'a> Device for Image<'a> {
         if self.is_off() {
             return Err(Fault::PowerGone(at));
         }
-        if at.0 >= self.blocks() {
+        if at.0 >= whole_blocks(self.bytes) {
             return Err(Fault::NoSuchBlock(at));
         }
         let mut out = [0u8; 512];
@@ -84,7 +70,7 @@ impl<'a> Device for Image<'a> {
         if self.is_off() {
             return Err(Fault::PowerGone(at));
         }
-        if at.0 >= self.blocks() {
+        if at.0 >= whole_blocks(self.bytes) {
             return Err(Fault::NoSuchBlock(at));
         }
         self.last = Some(Put {
