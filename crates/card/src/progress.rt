@@ -62,6 +62,7 @@ impl Progress {
     ) -> Result<(), Refusal>
         ensures { Learned g.now (D.Device.model device.old) self.old → Examines g.now result (Learned g.now (D.Device.model device.old) self.new × (self.new.next ≡ g.now.blocks) × (surveyed (so_far (Ok (sizes g.now)) self.new) (D.Device.model device.old).shown ≡ surveyed (so_far (Ok (sizes g.now)) self.old) (D.Device.model device.old).shown)) (D.Device.model device.old) (D.Device.model device.new) }
     {
+        // Kept: the number of the next block is what the survey keeps and each step moves; a `for` would count it twice.
         while self.next < g.blocks {
             self.examine_next(device, g)?;
         }
