@@ -23,7 +23,7 @@ use power::PowerCut;
 pub struct Opened<D: Device> {
     core: Core<D>,
     progress: Progress,
-    ghost seen: { Seen core.ready progress (D.Device.model core.device) } by { Seen-prop core.ready progress (D.Device.model core.device) },
+    pub ghost seen: { Seen core.ready progress (D.Device.model core.device) } by { Seen-prop core.ready progress (D.Device.model core.device) },
 }
 
 // How a survey stands: how many blocks remain to be examined, and the highest identity seen so far.

@@ -32,7 +32,7 @@ pub struct Surveyed<D: Device> {
     pub(crate) core: Core<D>,
     pub(crate) memory: Memory,
     pub(crate) marks: Marks,
-    ghost known: { IsKnown core.ready memory marks (D.Device.model core.device) } by { Known-prop core.ready memory marks (D.Device.model core.device) },
+    pub ghost known: { IsKnown core.ready memory marks (D.Device.model core.device) } by { Known-prop core.ready memory marks (D.Device.model core.device) },
 }
 
 // How many bodies and how many slots are free.

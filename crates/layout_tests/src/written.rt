@@ -52,6 +52,7 @@ fn slot_and_body(rt: HostRuntime) -> Result<(), Fail> {
     );
     assert_eq!(rt; slot[511], 0);
     assert!(rt; encode_slot(Kind::File, Identity(2), &root, &[BlockNo(5); 65]).is_none());
+    assert_eq!(rt; slot[0], 2);
     let Some(body) = encode_file_body(&back(0), b"ABC") else {
         return Err(Fail::new("body"));
     };

@@ -42,7 +42,7 @@ fn whole_arrays(slots: &[Option<SlotMark>; 256], bodies: &[Option<Back>; 4096])
 
 impl Marks {
     // Computes nothing: says that there is a place for every slot and every block.
-    // Kept: a ghost field cannot say it, since definitions make marks of lists of any length.
+    // Kept: as a ghost field it would have to be proved wherever a definition makes marks, as `with_slot` does.
     pub fn whole(&self)
         ensures { Whole self.now }
     {
@@ -97,8 +97,7 @@ impl Marks {
         next_free(&self.bodies, g.slots + 1, g.blocks, at).map(BlockNo)
     }
 
-    // Kept: slots and bodies have methods of their own, a line each over one generic function in `places`, so that a slot's
-    // number and a block's never stand in for one another.
+    // Kept: here and below slots and bodies have methods of their own, a line each over `places`, so that no number stands in for another kind.
     // How many slots are free.
     pub fn slots_left(&self, g: &Geometry) -> u16
         ensures { result ≡ slots_left (sizes g.now) self.now }

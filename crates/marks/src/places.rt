@@ -28,7 +28,7 @@ fn is_free<T: Copy>(marks: &[Option<T>], at: u16) -> bool
 }
 
 // The first free place from low up to high.
-// Kept: the places are the answer, and next to the elements of a slice they would have to be counted from low again.
+// Kept: the loop goes over places, not over elements, since a place past the slice is free too.
 fn first_free<T: Copy>(marks: &[Option<T>], low: u16, high: u16) -> Option<u16>
     ensures { result ≡ first (unmarked marks.now) (from low (high - low)) }
 {

@@ -84,7 +84,7 @@ pub fn damage_lines<D: Device>(
     ensures { Says g.now result (λ n. Sofar lines.old (damage_rows (sizes g.now) (shows g.now (D.Device.model device.old)) marks.now) n lines.new) (D.Device.model device.old) (D.Device.model device.new) }
 {
     let mut list = Lines::over(lines);
-    // Kept: the slot's number is handed on, and the mark is read by it; next to the marks it would be counted again.
+    // Kept: the slot's number is what is handed on, and its mark is read by it.
     for s in 0..g.slots {
         if marks[s as usize] {
             check_slot(device, g, SlotNo(s), &mut list)?;

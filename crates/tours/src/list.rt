@@ -54,8 +54,7 @@ fn list_cell<D: Device>(
     Ok(())
 }
 
-// Kept: this step and the next stand here and in `marks`, three lines each: what a step leaves differs (rows added here,
-// slots chained there), and a trait for both would need the laws of either as ghost members.
+// Kept: this step and the next stand in `marks` too, three lines each: rows are added here, slots chained there, and one trait would need both laws.
 // Adds the sound entries of a good leaf.
 fn list_cells<D: Device>(
     device: &mut D,
