@@ -26,7 +26,7 @@ pub struct SlotCopy {
     pub identity: Identity,
     pub parent: Handle,
     pub count: u16,
-    numbers: [u8; 128],
+    pub numbers: [u8; 128],
 }
 
 // The slot in a block, if it is well formed.
