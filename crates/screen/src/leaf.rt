@@ -30,6 +30,7 @@ fn look(image: &[u8], path: &[u8], leaf: LeafNo, out: &mut [u8]) -> Result<usize
 
 // A leaf of the file at a path of a card image, into the front of `out`: answers its length, at most 496, or 1,000 and
 // the number of the refusal, which leaves `out` as it was.
+// Kept: a program in C gets one number; `look` above has the answer as a Result.
 pub fn gildreyk_leaf(image: &[u8], path: &[u8], leaf: u32, out: &mut [u8]) -> u32
     ensures answer { result ≡ told (screen_answer image.now path.now leaf (length out.old)) }
     ensures filled { out.new ≡ read_into out.old (screen_answer image.now path.now leaf (length out.old)) }
