@@ -39,7 +39,10 @@ impl<'a> Image<'a> {
     fn is_off(&self) -> bool
         ensures { result ≡ differs self.now.bytes.now self.now.last }
     {
-        matches!(self.last, Some(put) if put.bytes.as_slice() != part(self.bytes, put.block.0))
+        let Some(put) = &self.last else {
+            return false;
+        };
+        *put.bytes.as_slice() != *part(self.bytes, put.block.0)
     }
 }
 
