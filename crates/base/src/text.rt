@@ -16,7 +16,8 @@ impl fmt::Display for BlockNo {
     ghost styled_output = { λ n spec. Some (styled_decimal spec n.0) };
 
     fn fmt<W: fmt::Write>(&self, f: &mut fmt::Formatter<W>) -> fmt::Result {
-        fmt::Display::fmt(&self.0, f)
+        let BlockNo(number) = self;
+        fmt::Display::fmt(number, f)
     }
 }
 
@@ -26,7 +27,8 @@ impl fmt::Display for SlotNo {
     ghost styled_output = { λ n spec. Some (styled_decimal spec n.0) };
 
     fn fmt<W: fmt::Write>(&self, f: &mut fmt::Formatter<W>) -> fmt::Result {
-        fmt::Display::fmt(&self.0, f)
+        let SlotNo(number) = self;
+        fmt::Display::fmt(number, f)
     }
 }
 
@@ -36,7 +38,8 @@ impl fmt::Display for LeafNo {
     ghost styled_output = { λ n spec. Some (styled_decimal spec n.0) };
 
     fn fmt<W: fmt::Write>(&self, f: &mut fmt::Formatter<W>) -> fmt::Result {
-        fmt::Display::fmt(&self.0, f)
+        let LeafNo(number) = self;
+        fmt::Display::fmt(number, f)
     }
 }
 
@@ -46,7 +49,8 @@ impl fmt::Display for Identity {
     ghost styled_output = { λ n spec. Some (styled_decimal spec n.0) };
 
     fn fmt<W: fmt::Write>(&self, f: &mut fmt::Formatter<W>) -> fmt::Result {
-        fmt::Display::fmt(&self.0, f)
+        let Identity(number) = self;
+        fmt::Display::fmt(number, f)
     }
 }
 

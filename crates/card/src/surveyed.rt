@@ -3,7 +3,6 @@ ghost use Rattle.std.specs.Prelude.{◌≡◌, ℕ, Some};
 ghost use Rattle.std.specs.Option.{option_map};
 ghost use Rattle.layout.specs.Format.{back as leaf_line};
 ghost use Rattle.marks.specs.Marks.{with_gained};
-ghost use Rattle.rule.specs.Changing.{synced};
 ghost use Rattle.change.specs.Plans.{gained_block};
 ghost use Rattle.card.specs.Once.{Known-prop};
 ghost use Rattle.card.specs.Valid.{Known as IsKnown};
@@ -20,7 +19,6 @@ use change::remove::plan_remove;
 use change::shorten::plan_shorten;
 use change::write::plan_write;
 use device::Device;
-use device::fault::Synced;
 use listing::line::{DamageLine, EntryLine};
 use marks::mark::{Marks, SlotMark};
 use power::PowerCut;
@@ -52,15 +50,6 @@ fn mark_gained(marks: &mut Marks, gained: Option<Gained>, owner: &Handle)
             leaf: gain.leaf,
         };
         marks.set_body(gain.block, Some(back));
-    }
-}
-
-fn sync_answer(answer: Synced) -> Result<(), Refusal>
-    ensures { result ≡ synced answer }
-{
-    match answer {
-        Synced::Settled => Ok(()),
-        Synced::Unsure => Err(Refusal::SyncUnsure),
     }
 }
 
@@ -221,12 +210,13 @@ impl<D: Device> Surveyed<D> {
     }
 
     // Asks the device that all that is shown lands (a flush), and passes its answer on.
+    #[tactic(auto, using(rule::proofs::Syncs::landed_is))]
     pub fn sync(&mut self) -> Result<(), Refusal>
         ensures syncs { Syncs (on self.old) result (on self.new) }
     {
         self.core.ready?;
         let answer = self.core.device.sync().map_err(Refusal::from);
-        sync_answer(self.core.keep(answer)?)
+        self.core.keep(answer)?.landed()
     }
 
     // The device, to be looked at from outside.

@@ -11,6 +11,7 @@ use listing::line::{NO_DAMAGE, NO_ENTRY};
 use std::mem;
 use walk::path::ROOT;
 
+// Kept: refusals go by their numbers here, since those are what the page on refusals promises.
 // The numbers of the refusals that find, path, list, status, damage and read meet, if they meet one.
 pub type Numbers = [Option<u8>; 6];
 

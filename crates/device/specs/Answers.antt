@@ -1,9 +1,9 @@
 -- What each call of a device says, by its answer: of the model m before the call and n after it.
-use Rattle.std.specs.Prelude.{◌≡◌, ℕ, ◌<◌, ◌≤◌, Bool, true, false, ◌⊎◌, List, Result, codes, MatchResult}
+use Rattle.std.specs.Prelude.{◌≡◌, ℕ, ◌<◌, ◌≤◌, Bool, true, false, ◌⊎◌, List, Ok, Err, Result, codes, MatchResult}
 use Rattle.device.specs.Model.{Model, Block, Written, Torn, Stayed, Lost, Settled}
 use Rattle.base.specs.declared.number.BlockNo.{BlockNo}
 use Rattle.base.specs.declared.refusal.Refusal.{Refusal}
-use Rattle.base.specs.declared.refusal.Refusal.TheVariants.{PowerGone as PowerGoneRefusal, NoSuchBlock as NoSuchBlockRefusal}
+use Rattle.base.specs.declared.refusal.Refusal.TheVariants.{PowerGone as PowerGoneRefusal, NoSuchBlock as NoSuchBlockRefusal, SyncUnsure}
 use Rattle.device.specs.declared.fault.Fault.{Fault}
 use Rattle.device.specs.declared.fault.Fault.TheVariants.{PowerGone, NoSuchBlock}
 use Rattle.device.specs.declared.fault.Synced.{Synced}
@@ -21,6 +21,11 @@ power_gone (NoSuchBlock b) = false
 abbrev pub fault_text : Fault → List ℕ
 fault_text (PowerGone b) = codes "power gone"
 fault_text (NoSuchBlock b) = codes "no such block"
+
+-- what is answered to a caller: nothing, or that it is not sure whether everything has landed
+abbrev pub landed : Synced → Result (Unit {0}) Refusal
+landed SettledAnswer = Ok tt
+landed Unsure = Err SyncUnsure
 
 abbrev pub synced_text : Synced → List ℕ
 synced_text SettledAnswer = codes "settled"

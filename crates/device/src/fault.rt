@@ -1,7 +1,7 @@
 // What a device answers besides bytes.
 ghost use Rattle.std.specs.Prelude.{◌≡◌, Some};
 ghost use Rattle.std.specs.Fmt.{padded};
-ghost use Rattle.device.specs.Answers.{refusal_of, power_gone, fault_text, synced_text};
+ghost use Rattle.device.specs.Answers.{refusal_of, power_gone, fault_text, landed, synced_text};
 
 use base::number::BlockNo;
 use base::refusal::Refusal;
@@ -43,6 +43,18 @@ impl Error for Fault {}
 pub enum Synced {
     Settled,
     Unsure,
+}
+
+impl Synced {
+    // Refused unless everything has landed.
+    pub fn landed(self) -> Result<(), Refusal>
+        ensures { result ≡ landed self }
+    {
+        match self {
+            Synced::Settled => Ok(()),
+            Synced::Unsure => Err(Refusal::SyncUnsure),
+        }
+    }
 }
 
 impl fmt::Display for Synced {

@@ -11,7 +11,7 @@ use base::number::{BlockNo, Identity, SlotNo};
 use base::owner::{Handle, Kind};
 use base::refusal::Refusal;
 use device::Device;
-use device::fault::{Fault, Synced};
+use device::fault::Fault;
 use encode::block::{encode_blank, encode_cover, encode_slot};
 use layout::geometry::Geometry;
 
@@ -53,8 +53,5 @@ pub fn format<D: Device>(device: &mut D, blocks: u16, slots: u16) -> Result<(), 
         return Err(Refusal::SmallDevice(blocks));
     }
     write_new(device, &g)?;
-    match device.sync()? {
-        Synced::Settled => Ok(()),
-        Synced::Unsure => Err(Refusal::SyncUnsure),
-    }
+    device.sync()?.landed()
 }

@@ -3,9 +3,10 @@ use crate::text::Name;
 use anyhow::anyhow;
 use base::number::BlockNo;
 use base::owner::{Back, Kind};
-use entries::entry::{Cell, parse_cell};
+use entries::entry::{Cell, cells, parse_cell};
 use layout::block::{Block, Slot, parse, parse_cover};
 use layout::geometry::Geometry;
+use layout::number::number16;
 use std::io;
 
 fn print_slot(rt: &impl Print, n: u16, kind: Kind, slot: &Slot) -> io::Result<()> {
@@ -17,11 +18,9 @@ fn print_slot(rt: &impl Print, n: u16, kind: Kind, slot: &Slot) -> io::Result<()
     print!(rt;
         "block {n}: {kind} slot {s}, identity {identity}, in slot {parent} of identity {above}, leaves {count}"
     )?;
-    for pair in slot.numbers.chunks_exact(2) {
-        if let [low, high] = pair {
-            let b = u16::from_le_bytes([*low, *high]);
-            print!(rt; " @{b}")?;
-        }
+    for pair in slot.numbers.as_chunks::<2>().0 {
+        let b = number16(*pair);
+        print!(rt; " @{b}")?;
     }
     println!(rt; "")
 }
@@ -36,8 +35,8 @@ fn print_body(rt: &impl Print, n: u16, kind: Kind, back: &Back, length: usize) -
 }
 
 fn print_entries(rt: &impl Print, g: &Geometry, payload: &[u8]) -> io::Result<()> {
-    for (place, bytes) in payload.chunks_exact(32).enumerate() {
-        match parse_cell(g, bytes) {
+    for (place, cell) in cells(payload).iter().enumerate() {
+        match parse_cell(g, cell) {
             Cell::Used(entry) => {
                 let name = Name(entry.name);
                 let slot = entry.child.slot;

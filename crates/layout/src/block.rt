@@ -27,7 +27,7 @@ pub struct Body<'a> {
 }
 
 // A folder's leaf: the 15 cells of its entries.
-// Kept: two structs, since each has its own fact of how long the payload is.
+// Kept: a struct beside `Body`, since each has its own fact of how long the payload is, and a slice as the file's is.
 #[derive(Clone, Copy, PartialEq, Eq, Debug)]
 pub struct FolderBody<'a> {
     pub back: Back,
@@ -38,6 +38,7 @@ pub struct FolderBody<'a> {
 #[derive(Clone, Copy, PartialEq, Eq, Debug)]
 pub enum Block<'a> {
     Blank,
+    // Kept: the numbers as they stand in the block; `parse_cover` gives them as a Geometry.
     Cover { blocks: u16, slots: u16 },
     FileSlot(Slot<'a>),
     FolderSlot(Slot<'a>),

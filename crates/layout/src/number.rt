@@ -2,7 +2,7 @@
 ghost use Rattle.std.specs.Prelude.{◌≡◌};
 ghost use Rattle.layout.specs.Format.{le16, le32};
 
-// Kept: a trait with an impl for u16 and one for u32 would be longer than these two, which std keeps apart as well.
+// Kept: each names the format's definition for its width, le16 or le32; a trait with two impls would be longer.
 pub fn number16(bytes: [u8; 2]) -> u16
     ensures { result ≡ le16 bytes 0 }
 {

@@ -63,8 +63,8 @@ fn sample(kind: Kind) -> [u8; 512] {
             put(&mut block, 2, 1);
             put(&mut block, 4, 2);
             put(&mut block, 8, 1);
-            for k in 0..64u16 {
-                put(&mut block, 16 + 2 * k, 5);
+            for pair in block[16..144].chunks_exact_mut(2) {
+                pair.copy_from_slice(&[5, 0]);
             }
         }
         Kind::FileBody | Kind::FolderBody => {

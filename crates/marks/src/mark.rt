@@ -83,6 +83,7 @@ impl Marks {
         mark.identity == child.identity && names(&mark, folder)
     }
 
+    // Kept: here and below slots and bodies have methods of their own, a line each over `places`, so that no number stands in for another kind.
     // The first free slot at or after the cursor, going round.
     pub fn free_slot(&self, g: &Geometry, at: u16) -> Option<SlotNo>
         ensures { option_map (λ s. s.0) result ≡ next_free_slot (sizes g.now) self.now at }
@@ -97,7 +98,6 @@ impl Marks {
         next_free(&self.bodies, g.slots + 1, g.blocks, at).map(BlockNo)
     }
 
-    // Kept: here and below slots and bodies have methods of their own, a line each over `places`, so that no number stands in for another kind.
     // How many slots are free.
     pub fn slots_left(&self, g: &Geometry) -> u16
         ensures { result ≡ slots_left (sizes g.now) self.now }

@@ -12,3 +12,4 @@ pub mod Answered
 pub mod Lines
 pub mod Accepted
 pub mod Full
+pub mod Syncs

@@ -15,6 +15,7 @@ use walk::path::check_path;
 fn look(image: &[u8], path: &[u8], leaf: LeafNo, out: &mut [u8]) -> Result<usize, Refusal>
     ensures { Fills (screen_answer image.now path.now leaf.0 (length out.old)) result out.old out.new }
 {
+    // Kept: a From of a path's refusal to a plain one would let any `?` drop the component unseen.
     if let Err(e) = check_path(path) {
         return Err(e.lower);
     }

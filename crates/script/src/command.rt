@@ -95,12 +95,9 @@ impl<'a> Words<'a> {
     pub fn word(&mut self) -> Option<&'a [u8]> {
         let line = self.rest?;
         let end = part_end(line, b' ');
-        self.rest = if end < line.len() {
-            Some(&line[end + 1..])
-        } else {
-            None
-        };
-        Some(&line[..end])
+        let (word, behind) = line.split_at(end);
+        self.rest = behind.get(1..);
+        Some(word)
     }
 
     fn sixteen(&mut self) -> Option<u16> {
@@ -169,11 +166,7 @@ impl<'a> Words<'a> {
     fn block(&mut self) -> Option<Command<'a>> {
         let at = self.sixteen()?;
         let content = self.hex()?;
-        if content.len() == 512 {
-            Some(Command::Block(at, content))
-        } else {
-            None
-        }
+        (content.len() == 512).then_some(Command::Block(at, content))
     }
 
     fn format(&mut self) -> Option<Command<'a>> {
@@ -267,10 +260,7 @@ pub fn parse<'a>(line: &'a [u8]) -> Option<Command<'a>> {
     let mut words = Words::new(line);
     let name = words.word()?;
     let command = named(name, &mut words)?;
-    if words.rest.is_some() {
-        return None;
-    }
-    Some(command)
+    words.rest.is_none().then_some(command)
 }
 
 // Whether a line prints nothing: a note, or spaces alone.

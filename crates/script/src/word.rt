@@ -11,18 +11,14 @@ fn with_digit(front: Option<u32>, byte: u8, limit: u32) -> Option<u32>
         return None;
     }
     let more = n as u64 * 10 + (byte - b'0') as u64;
-    if more <= limit as u64 {
-        Some(more as u32)
-    } else {
-        None
-    }
+    u32::try_from(more).ok().filter(|more| *more <= limit)
 }
 
 // What stands before the first digit: nothing yet. A word without a digit is no number.
 fn before_digits(word: &[u8]) -> Option<u32>
     ensures { result ≡ before_digits word.now }
 {
-    if word.is_empty() { None } else { Some(0) }
+    (!word.is_empty()).then_some(0)
 }
 
 // A decimal number up to a limit: digits alone, at least one; zeros in front pass.
@@ -46,6 +42,7 @@ pub fn nibble(byte: u8) -> Option<u8>
     }
 }
 
+// Kept: `nibble(*byte).is_some()` in the chain of `all_nibbles` was tried, and its proof did not close.
 fn is_nibble(byte: u8) -> bool
     ensures { result ≡ is_nibble byte }
 {

@@ -2,6 +2,7 @@
 ghost use Rattle.std.specs.Prelude.{◌≡◌, ◌≤◌, length};
 
 // What follows the head of a good leaf's body. Bytes past the used ones are 0.
+// Kept: a copy is Copy, which an ArrayVec is not, and of a folder's leaf all 480 bytes are read whatever was used.
 #[derive(Clone, Copy, PartialEq, Eq, Debug)]
 pub struct LeafCopy {
     bytes: [u8; 496],

@@ -19,7 +19,7 @@ use layout::geometry::Geometry;
 use layout::number::number16;
 
 // A well-formed slot, taken out of its block; `numbers` are the block numbers of its leaves, two bytes each.
-// Kept: a slice would keep the block, and a vector needs the heap; only `number` reads the buffer.
+// Kept: a slice would keep the block, and an ArrayVec is not Copy, which the survey's array of slots needs.
 #[derive(Clone, Copy, PartialEq, Eq, Debug)]
 pub struct SlotCopy {
     pub kind: Kind,
@@ -73,6 +73,7 @@ impl SlotCopy {
     }
 
     // The block of a leaf; 0, which is no body, from the count on.
+    // Kept: the rule's definition `number` is 0 there too, and a caller asks at once whether it is a body's.
     #[tactic(auto, using(crate::proofs::Copying::number_none, crate::proofs::Copying::number_here))]
     pub fn number(&self, leaf: LeafNo) -> BlockNo
         ensures { result.0 ≡ number (copied self.now) leaf.0 }

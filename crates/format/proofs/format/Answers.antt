@@ -1,8 +1,6 @@
-use Rattle.std.proofs.Common.{refl, subst, arith}
+use Rattle.std.proofs.Common.{◌∙◌, arith}
 use Rattle.std.proofs.lemmas.Result.{err_from_is_err_and}
-use Rattle.device.specs.Answers.{SyncAnswer}
-use Rattle.device.specs.declared.fault.Synced.TheVariants.{Settled, Unsure}
-use Rattle.rule.specs.Changing.{synced}
+use Rattle.rule.proofs.Syncs.{landed_is}
 use Rattle.format.proofs.News.{format_outside, format_small, write_refused, sync_refused, sync_answered, refused_early}
 use Rattle.format.proofs.format.Goals as goal
 
@@ -26,14 +24,6 @@ returns-in_err-sync g c =
     let p = err_from_is_err_and c.from_residual-in_err-sync.result c.from_residual-in_err-sync.ensures.1 in
     sync_refused c.in-Some.g c.args.blocks c.args.slots c.in-Some.ensures.1 c.in-Some.ensures.2 (g.D.Device.model c.args.device.now) _ _ (omega (arith, c.count.ensures, c.if-count-blocks.false)) _ _ c.in_err-sync.field-0.0 c.in_ok-write_new.ensures.1 p.1 p.2 c.in_err-sync.ensures
 
-pub returns-in-Settled : goal.returns-in-Settled
-unfolding synced
-returns-in-Settled g c =
-    sync_answered c.in-Some.g c.args.blocks c.args.slots c.in-Some.ensures.1 c.in-Some.ensures.2 (g.D.Device.model c.args.device.now) _ _ (omega (arith, c.count.ensures, c.if-count-blocks.false)) (g.D.Device.model c.write_new.new.device) Settled c.in_ok-write_new.ensures.1 refl
-    (subst (SyncAnswer (g.D.Device.model c.write_new.new.device) (g.D.Device.model c.sync.new.self)) c.in-Settled.is c.in_ok-sync.ensures)
-
-pub returns-in-Unsure : goal.returns-in-Unsure
-unfolding synced
-returns-in-Unsure g c =
-    sync_answered c.in-Some.g c.args.blocks c.args.slots c.in-Some.ensures.1 c.in-Some.ensures.2 (g.D.Device.model c.args.device.now) _ _ (omega (arith, c.count.ensures, c.if-count-blocks.false)) (g.D.Device.model c.write_new.new.device) Unsure c.in_ok-write_new.ensures.1 refl
-    (subst (SyncAnswer (g.D.Device.model c.write_new.new.device) (g.D.Device.model c.sync.new.self)) c.in-Unsure.is c.in_ok-sync.ensures)
+pub returns : goal.returns
+returns g c =
+    sync_answered c.in-Some.g c.args.blocks c.args.slots c.in-Some.ensures.1 c.in-Some.ensures.2 (g.D.Device.model c.args.device.now) _ _ (omega (arith, c.count.ensures, c.if-count-blocks.false)) (g.D.Device.model c.write_new.new.device) _ c.in_ok-write_new.ensures.1 (c.landed.ensures ∙ landed_is _) c.in_ok-sync.ensures
