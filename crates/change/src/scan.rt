@@ -108,6 +108,7 @@ fn vacant_in(
 }
 
 // A leaf of the folder, if it is good. One read.
+// Kept: the premise on the kind: the one caller has just looked at it, and a type for a folder's node would only move it.
 fn scan_leaf<D: Device>(
     device: &mut D,
     known: &Known,
@@ -160,6 +161,7 @@ pub(crate) fn scan_folder<D: Device>(
 }
 
 // The child that the entry in a cell leads to; the root where there is no entry.
+// Kept: no Option: the definition child_of answers the root there too, and the callers of child_at have a sound entry.
 fn child_in(g: &Geometry, cell: &[u8; 32]) -> Handle
     ensures { result ≡ child_of (entry_of (sizes g.now) cell.now) }
 {
