@@ -1,9 +1,6 @@
 -- The scan of a folder, place by place and leaf by leaf.
-use Rattle.std.proofs.Common.{◌≡◌, ℕ, suc, ◌+◌, ◌-◌, ◌*◌, ◌<◌, ◌≤◌, Bool, true, false, cond, ltb, List, [], ◌∷◌, ◌++◌, length, get_or, take, drop, Some, None, Option, sym, refl, ap, ◌∙◌, subst, inl, inr, add-one, arith, MatchOption}
+use Rattle.std.proofs.Common.{◌≡◌, ℕ, suc, ◌+◌, ◌-◌, ◌<◌, ◌≤◌, Bool, true, false, cond, ltb, List, [], ◌∷◌, ◌++◌, get_or, take, Some, None, Option, sym, refl, ap, ◌∙◌, subst, inl, inr, add-one, arith, MatchOption}
 use Rattle.std.specs.Option.{is_some, IsSome}
-use Rattle.std.proofs.Math.Seq.{take-append_seam, drop-append_seam}
-use Rattle.std.proofs.lemmas.List.{drop_more, drop_all, drop-drop, length-drop, length-append}
-use Rattle.layout.proofs.Cells.{cell_at}
 use Rattle.std.proofs.lemmas.Bool.{cond-true, cond-false, and_parts}
 use Rattle.base.specs.declared.owner.Kind.TheVariants.{File, Folder}
 use Rattle.base.specs.declared.owner.Handle.{Handle}
@@ -25,38 +22,6 @@ use Rattle.change.specs.Scanning.{passes, at_cell, first_sought, SpotIn, SpotOr,
 
 no_kind : {A : Type 0} → File ≡ Folder → A
 no_kind e = let z : ◌≡◌ {A = ℕ} 0 1 = cc in absurd (omega arith)
-
--- the bytes of a leaf from its cell i on
-module _ (z : List ℕ) where
-  pub cell_next : (x rest : List ℕ) (i : ℕ) → length z ≡ 480 → drop (32 * i) z ≡ x ++ rest → length x ≡ 32 → (i < 15) × (x ≡ get_or (cells z) i []) × (rest ≡ drop (32 * (i + 1)) z)
-  cell_next x rest i len e size =
-      let room = simp (length-drop, length-append) at (ap length e) in
-      let low : i < 15 = omega arith in
-      let front : take 32 (drop (32 * i) z) ≡ x = ap (take 32) e ∙ ap (λ (n : ℕ). take n (x ++ rest)) (sym size) ∙ take-append_seam x rest in
-      let back : drop 32 (drop (32 * i) z) ≡ rest = ap (drop 32) e ∙ ap (λ (n : ℕ). drop n (x ++ rest)) (sym size) ∙ drop-append_seam x rest in
-      (low, sym front ∙ sym (cell_at i z low), sym back ∙ drop-drop 32 (32 * i) z ∙ ap (λ (j : ℕ). drop j z) (omega arith))
-
-  pub cells_over : (rest : List ℕ) (i : ℕ) → length z ≡ 480 → drop (32 * i) z ≡ rest → length rest < 32 → 15 ≤ i
-  cells_over rest i len e few =
-      let room = simp length-drop at (ap length e) in
-      omega arith
-
--- the places of a leaf from i on
-module _ (p : Place → Bool) (k : ℕ) (cs : List Cell) (i : ℕ) where
-  abbrev here : Place
-  here = record { leaf = k; place = i; cell = get_or cs i [] }
-
-  at_more : i < length cs → first p (places_of k i (drop i cs)) ≡ cond (p here) (Some here) (first p (places_of k (i + 1) (drop (i + 1) cs)))
-  at_more l = ap (λ (es : List Cell). first p (places_of k i es)) (drop_more cs i [] l) ∙ ap (λ (j : ℕ). cond (p here) (Some here) (first p (places_of k j (drop (i + 1) cs)))) (sym (add-one i))
-
-  pub place_on : i < length cs → p here ≡ false → first p (places_of k i (drop i cs)) ≡ first p (places_of k (i + 1) (drop (i + 1) cs))
-  place_on l e = at_more l ∙ cond-false (p here) _ _ e
-
-  pub place_here : i < length cs → p here ≡ true → first p (places_of k i (drop i cs)) ≡ Some here
-  place_here l e = at_more l ∙ cond-true (p here) _ _ e
-
-  pub place_end : length cs ≤ i → first p (places_of k i (drop i cs)) ≡ None
-  place_end l = ap (λ (es : List Cell). first p (places_of k i es)) (drop_all i cs l)
 
 module _ (v : View) (f : Handle) (r : Slot) where
   -- the copy of a good leaf

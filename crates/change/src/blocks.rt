@@ -33,6 +33,7 @@ fn block_of(at: SlotNo) -> BlockNo
 }
 
 // The blocks of the leaves; 0 from the count on.
+// Kept: an array of all 64, cut by its callers; an ArrayVec would owe room at each of the 64 pushes, and there is no heap.
 fn numbers_of(slot: &SlotCopy) -> [BlockNo; 64]
     ensures { Begins (copied slot.now).numbers result 64 }
 {

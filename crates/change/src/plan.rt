@@ -11,7 +11,7 @@ use device::put::Put;
 #[derive(Clone, Copy)]
 pub struct Memory {
     pub highest: Identity,
-    // Kept: a cursor is where a search begins; one past the last slot or block it is the number of none, so no newtype says more.
+    // Kept: `next_slot` and `next_body` of the definitions may be one past the last, where a SlotNo or BlockNo would name what is not.
     pub next_slot: u16,
     pub next_body: u16,
 }

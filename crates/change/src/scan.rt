@@ -15,7 +15,7 @@ use base::number::LeafNo;
 use base::owner::{Handle, Kind};
 use device::Device;
 use device::fault::Fault;
-use entries::entry::{Cell, cell_bytes, parse_cell};
+use entries::entry::{Cell, parse_cell};
 use layout::geometry::Geometry;
 use walk::leaf::read_leaf;
 use walk::leaf_copy::LeafCopy;
@@ -46,11 +46,10 @@ pub struct Scan {
     pub vacant: Option<Spot>,
 }
 
-fn is_sought(known: &Known, folder: &Handle, sought: Sought, bytes: &[u8]) -> bool
-    requires { length bytes.now ≡ 32 }
-    ensures { result ≡ passes (sizes known.now.geometry) known.now.marks.now folder.now sought.entry bytes.now }
+fn is_sought(known: &Known, folder: &Handle, sought: Sought, cell: &[u8; 32]) -> bool
+    ensures { result ≡ passes (sizes known.now.geometry) known.now.marks.now folder.now sought.entry cell.now }
 {
-    match (parse_cell(&known.geometry, bytes), sought) {
+    match (parse_cell(&known.geometry, cell), sought) {
         (Cell::Used(e), Sought::Entry) => known.marks.is_child(folder, &e.child),
         (Cell::Used(e), Sought::Named(name)) => {
             *name == *e.name && known.marks.is_child(folder, &e.child)
@@ -61,12 +60,12 @@ fn is_sought(known: &Known, folder: &Handle, sought: Sought, bytes: &[u8]) -> bo
     }
 }
 
-// The first place among the 15 of a leaf, which has 480 bytes.
-fn find_place(known: &Known, folder: &Handle, sought: Sought, payload: &[u8]) -> Option<usize>
-    requires { length payload.now ≡ 480 }
-    ensures { PlaceIs (sizes known.now.geometry) known.now.marks.now folder.now sought.entry (cells payload.now) result }
+// The first place among the 15 of a leaf.
+fn find_place(known: &Known, folder: &Handle, sought: Sought, cells: &[[u8; 32]]) -> Option<usize>
+    requires { length cells.now ≡ 15 }
+    ensures { PlaceIs (sizes known.now.geometry) known.now.marks.now folder.now sought.entry cells.now result }
 {
-    for (place, cell) in payload.chunks_exact(32).enumerate() {
+    for (place, cell) in cells.iter().enumerate() {
         if is_sought(known, folder, sought, cell) {
             return Some(place);
         }
@@ -84,7 +83,7 @@ fn spot_in(
 ) -> Option<Spot>
     ensures { SpotIn (sizes known.now.geometry) known.now.marks.now folder.now sought.entry leaf.0 copy.now result }
 {
-    let place = find_place(known, folder, sought, copy.folder_bytes())?;
+    let place = find_place(known, folder, sought, copy.cells())?;
     Some(Spot {
         leaf,
         place,
@@ -109,6 +108,7 @@ fn vacant_in(
 }
 
 // A leaf of the folder, if it is good. One read.
+// Kept: the premise on the kind: the one caller has just looked at it, and a type for a folder's node would only move it.
 fn scan_leaf<D: Device>(
     device: &mut D,
     known: &Known,
@@ -161,11 +161,11 @@ pub(crate) fn scan_folder<D: Device>(
 }
 
 // The child that the entry in a cell leads to; the root where there is no entry.
-fn child_in(g: &Geometry, bytes: &[u8]) -> Handle
-    requires { length bytes.now ≡ 32 }
-    ensures { result ≡ child_of (entry_of (sizes g.now) bytes.now) }
+// Kept: no Option: the definition child_of answers the root there too, and the callers of child_at have a sound entry.
+fn child_in(g: &Geometry, cell: &[u8; 32]) -> Handle
+    ensures { result ≡ child_of (entry_of (sizes g.now) cell.now) }
 {
-    match parse_cell(g, bytes) {
+    match parse_cell(g, cell) {
         Cell::Used(e) => e.child,
         Cell::Blank | Cell::IllFormed => ROOT,
     }
@@ -175,8 +175,8 @@ fn child_in(g: &Geometry, bytes: &[u8]) -> Handle
 pub(crate) fn child_at(g: &Geometry, spot: &Spot) -> Handle
     ensures { spot.now.place < 15 → result ≡ child_of (entry_of (sizes g.now) (slice_index_or (cells (take 480 spot.now.copy.bytes)) spot.now.place [])) }
 {
-    match cell_bytes(spot.copy.folder_bytes(), spot.place) {
-        Some(bytes) => child_in(g, bytes),
+    match spot.copy.cells().get(spot.place) {
+        Some(cell) => child_in(g, cell),
         None => ROOT,
     }
 }
