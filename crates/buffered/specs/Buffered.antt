@@ -32,13 +32,19 @@ over_among (None ∷ ws) f s h b = over_among ws f s h b
 over_among (Some w ∷ ws) f s h b =
     among_step (b == w.block.0) w.bytes (over ws f b) (standing ws s b) (over_among ws f s h b)
 
-abbrev pub buffered : Table → Bool → Model → Model
-buffered ws gone m = record {
-  count = m.count;
-  power = not gone;
-  shown = over ws m.shown;
-  may = standing ws m.may;
-  among = over_among ws m.shown m.may m.among;
+-- what a buffered card is, seen from outside: what waits, whether power gone was met, and the device below
+pub record State : Type 0 where
+  pub table : Table
+  pub gone : Bool
+  pub below : Model
+
+abbrev pub buffered : State → Model
+buffered s = record {
+  count = s.below.count;
+  power = not s.gone;
+  shown = over s.table s.below.shown;
+  may = standing s.table s.below.may;
+  among = over_among s.table s.below.shown s.below.may s.below.among;
 }
 
 -- ---- the table

@@ -21,6 +21,8 @@ pub struct Buffered<D: Device> {
 }
 
 impl<D: Device> Buffered<D> {
+    ghost use Rattle.buffered.specs.Card.{on};
+
     // A card over `below` on which nothing waits.
     pub fn new(below: D) -> Buffered<D>
         ensures { (result.below ≡ below) × (result.gone ≡ false) × Empty result.table }
@@ -42,7 +44,7 @@ impl<D: Device> Buffered<D> {
     // Sends down the highest waiting block, in the course of a call about the block `call`.
     fn send_down(&mut self, top: Waiting, call: BlockNo) -> Result<(), Fault>
         requires { (TopPut self.old.table top.place top.put) × (self.old.gone ≡ false) }
-        ensures { MatchResult result (λ _. SentDown self.old.table top.place self.new.table self.old.gone self.new.gone (D.Device.model self.old.below) (D.Device.model self.new.below)) (λ e. (e ≡ PowerGone call) × Halted self.old.table top.place self.new.table self.old.gone self.new.gone (D.Device.model self.old.below) (D.Device.model self.new.below)) }
+        ensures { MatchResult result (λ _. SentDown (on self.old) top.place (on self.new)) (λ e. (e ≡ PowerGone call) × Halted (on self.old) top.place (on self.new)) }
     {
         if self.below.write(top.put.block, &top.put.bytes).is_err() {
             self.gone = true;
@@ -56,7 +58,7 @@ impl<D: Device> Buffered<D> {
     // Kept: that the power is on is asked of the two steps inside a call; the card itself may have lost it.
     fn place(&mut self, at: BlockNo) -> Result<usize, Fault>
         requires { self.old.gone ≡ false }
-        ensures { MatchResult result (λ i. Placed self.old.table at.0 i self.new.table self.old.gone self.new.gone (D.Device.model self.old.below) (D.Device.model self.new.below)) (λ e. (e ≡ PowerGone at) × NoPlace self.old.table at.0 self.new.table self.old.gone self.new.gone (D.Device.model self.old.below) (D.Device.model self.new.below)) }
+        ensures { MatchResult result (λ i. Placed (on self.old) at.0 i (on self.new)) (λ e. (e ≡ PowerGone at) × NoPlace (on self.old) at.0 (on self.new)) }
     {
         if let Some(own) = find(&self.table, at) {
             return Ok(own.place);
@@ -74,15 +76,17 @@ impl<D: Device> Buffered<D> {
 
 // Beside what every device promises, each call says by whom it was answered, what went down and what waits after.
 impl<D: Device> Device for Buffered<D> {
-    ghost model = { λ s. buffered s.table s.gone (D.Device.model s.below) };
+    ghost use Rattle.buffered.specs.Card.{on};
+
+    ghost model = { λ s. buffered (on s) };
 
     fn count(&self) -> u16 {
         self.below.count()
     }
 
     fn read(&mut self, at: BlockNo) -> Result<[u8; 512], Fault>
-        ensures answer { Read at result (buffered self.old.table self.old.gone (D.Device.model self.old.below)) (buffered self.new.table self.new.gone (D.Device.model self.new.below)) }
-        ensures exact { ReadBy at result self.old.table self.new.table self.old.gone self.new.gone (D.Device.model self.old.below) (D.Device.model self.new.below) }
+        ensures answer { Read at result (buffered (on self.old)) (buffered (on self.new)) }
+        ensures exact { ReadBy at result (on self.old) (on self.new) }
     {
         if self.gone {
             return Err(Fault::PowerGone(at));
@@ -99,8 +103,8 @@ impl<D: Device> Device for Buffered<D> {
     }
 
     fn write(&mut self, at: BlockNo, bytes: &[u8; 512]) -> Result<(), Fault>
-        ensures answer { Write at bytes.now result (buffered self.old.table self.old.gone (D.Device.model self.old.below)) (buffered self.new.table self.new.gone (D.Device.model self.new.below)) }
-        ensures exact { WriteBy at bytes.now result self.old.table self.new.table self.old.gone self.new.gone (D.Device.model self.old.below) (D.Device.model self.new.below) }
+        ensures answer { Write at bytes.now result (buffered (on self.old)) (buffered (on self.new)) }
+        ensures exact { WriteBy at bytes.now result (on self.old) (on self.new) }
     {
         if self.gone {
             return Err(Fault::PowerGone(at));
@@ -117,8 +121,8 @@ impl<D: Device> Device for Buffered<D> {
     }
 
     fn sync(&mut self) -> Result<Synced, Fault>
-        ensures answer { Sync result (buffered self.old.table self.old.gone (D.Device.model self.old.below)) (buffered self.new.table self.new.gone (D.Device.model self.new.below)) }
-        ensures exact { SyncBy result self.old.table self.new.table self.old.gone self.new.gone (D.Device.model self.old.below) (D.Device.model self.new.below) }
+        ensures answer { Sync result (buffered (on self.old)) (buffered (on self.new)) }
+        ensures exact { SyncBy result (on self.old) (on self.new) }
     {
         if self.gone {
             return Err(Fault::PowerGone(WHOLE));

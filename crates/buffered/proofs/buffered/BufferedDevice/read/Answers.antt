@@ -1,5 +1,6 @@
 use Rattle.std.proofs.Common.{◌≡◌, ◌<◌, Ok, sym, ap, arith, rules}
 use Rattle.buffered.specs.Buffered.{contents}
+use Rattle.buffered.specs.Card.{on}
 use Rattle.buffered.specs.Steps.{met, waits}
 use Rattle.buffered.proofs.Buffers.{alone, read_below, read_found, same_stayed}
 use Rattle.buffered.proofs.buffered.BufferedDevice.read.Goals as goal
@@ -7,16 +8,15 @@ use Rattle.buffered.proofs.buffered.BufferedDevice.read.Goals.{in-Err-PowerGone,
 
 pub returns-in-Some : goal.returns-in-Some
 returns-in-Some g c =
-    let ws = c.args.self.now.table in
-    let m = g.D.Device.model c.args.self.now.below in
-    let l : c.args.at.0 < m.count = omega arith in
+    let s = on c.args.self.now in
+    let l : c.args.at.0 < s.below.count = omega arith in
     let h = c.in-Some.ensures in
     record {
-      answer = record { within = l; bytes = read_found ws m _ _ _ h.found h.is; stayed = same_stayed ws _ m c.if-self.false };
-      exact = waits c.if-self.false l _ h.found (ap Ok (sym (ap contents h.is))) (alone ws _ m);
+      answer = record { within = l; bytes = read_found s.table s.below _ _ _ h.found h.is; stayed = same_stayed s c.if-self.false };
+      exact = waits c.if-self.false l _ h.found (ap Ok (sym (ap contents h.is))) (alone s);
     }
 
 pub returns-clause-answer : goal.returns-clause-answer
 returns-clause-answer g c =
     let is : c.match-matches.self ≡ met c.read-answer.result = elim c.match-matches.branch [ in-Err-PowerGone w ↦ search rules | in_default-matches w ↦ search rules | in_default-matches-2 w ↦ search rules ] in
-    read_below _ _ _ _ _ _ _ c.if-self.false is (omega arith) c.in_default.ensures c.read-answer.ensures
+    read_below _ _ _ _ _ c.if-self.false is (omega arith) c.in_default.ensures c.read-answer.ensures
