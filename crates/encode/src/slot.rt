@@ -1,5 +1,5 @@
 // The numbers of a slot, taken out of its block, so that the slot can be written anew with more or fewer.
-ghost use Rattle.std.specs.Prelude.{◌≡◌, ◌<◌, length, MatchOption};
+ghost use Rattle.std.specs.Prelude.{◌≡◌, ◌<◌, ◌≤◌, length, MatchOption};
 ghost use Rattle.layout.specs.View.{all_numbers};
 ghost use Rattle.encode.specs.Heads.{plain};
 
@@ -9,7 +9,7 @@ use layout::block::Slot;
 
 // None where there are more than 64.
 pub fn copy_numbers(slot: &Slot) -> Option<ArrayVec<BlockNo, 64>>
-    ensures { MatchOption result (64 < length (all_numbers slot.now.numbers.now)) (λ n. plain n.items ≡ all_numbers slot.now.numbers.now) }
+    ensures { MatchOption result (64 < length (all_numbers slot.now.numbers.now)) (λ n. (length n.items ≤ 64) × (plain n.items ≡ all_numbers slot.now.numbers.now)) }
 {
     let count = slot.count();
     if count > 64 {
