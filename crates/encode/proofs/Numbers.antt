@@ -1,8 +1,7 @@
 -- The numbers of a slot, one more at a time, and their bytes.
-use Rattle.std.proofs.Common.{◌≡◌, ℕ, ◌+◌, ◌-◌, ◌*◌, ◌<◌, ◌≤◌, List, [], ◌∷◌, ◌++◌, length, get_or, take, set, replicate, Option, None, Some, MatchOption, sym, refl, ap, ◌∙◌, append_assoc, arith, get_or-set_other, get_or-set_same, below_more}
-use Rattle.std.specs.Option.{unwrap_or}
+use Rattle.std.proofs.Common.{◌≡◌, ℕ, ◌+◌, ◌-◌, ◌*◌, ◌<◌, ◌≤◌, List, [], ◌∷◌, ◌++◌, length, get_or, take, replicate, sym, refl, ap, ◌∙◌, append_assoc, arith}
 use borrow.Rule.Slice.PartMut.{put_mid}
-use Rattle.std.proofs.lemmas.List.{take_at, drop_at, take_more, ext_get_or, get_or_past, length-set, get_or-map, get_or-take, map_push, length-append, length-map, length-take-le, length-replicate, drop-replicate, replicate-append-replicate}
+use Rattle.std.proofs.lemmas.List.{take_at, drop_at, take_more, ext_get_or, get_or-map, get_or-take, map_push, length-append, length-map, length-take-le, length-replicate, drop-replicate, replicate-append-replicate}
 use Rattle.base.specs.declared.number.BlockNo.{BlockNo}
 use Rattle.base.specs.declared.owner.Handle.{Handle}
 use Rattle.base.specs.declared.owner.Kind.{Kind}
@@ -45,16 +44,6 @@ padded_more z m n lm mn =
     let sum : m - length z + (n - m) ≡ n - length z = omega arith in
     rw (all, append_assoc, replicate-append-replicate, sum) refl
 
-pub begins_more : (ns : List ℕ) (bs : List BlockNo) (n : ℕ) (b : BlockNo) → n < 64 → Begins ns bs n → b.0 ≡ get_or ns n 0 → Begins ns (set bs n b) (n + 1)
-begins_more ns bs n b lt h e =
-    record {
-      size = length-set bs n b ∙ h.size;
-      each =
-          below_more _ _
-          (λ j l. ap (λ (x : BlockNo). x.0) (get_or-set_other bs n j b (record { 0 = 0 }) (omega arith)) ∙ h.each j l)
-          (ap (λ (x : BlockNo). x.0) (get_or-set_same bs n b (record { 0 = 0 }) (omega (arith, h.size))) ∙ e);
-    }
-
 -- the first n of them
 pub begins_plain : (ns : List ℕ) (bs : List BlockNo) (n : ℕ) → Begins ns bs 64 → n ≤ length ns → n ≤ 64 → plain (take n bs) ≡ take n ns
 begins_plain ns bs n h low few =
@@ -69,11 +58,6 @@ begins_plain ns bs n h low few =
         get_or-map (λ (x : BlockNo). x.0) (take n bs) i (record { 0 = 0 }) 0 (omega (arith, length-take-le n bs (omega (arith, h.size))))
         ∙ ap (λ (x : BlockNo). x.0) (get_or-take n bs i (record { 0 = 0 }) j)
         ∙ h.each i (omega arith) ∙ sym (get_or-take n ns i 0 j)
-
--- a number that a slot has or has not
-pub number_or_zero : (ns : List ℕ) (k : ℕ) (o : Option BlockNo) (b : BlockNo) → MatchOption o (length ns ≤ k) (λ x. (k < length ns) × (x.0 ≡ get_or ns k 0)) → b ≡ unwrap_or o (record { 0 = 0 }) → b.0 ≡ get_or ns k 0
-number_or_zero ns k None b w e = ap (λ (x : BlockNo). x.0) e ∙ sym (get_or_past ns k 0 w)
-number_or_zero ns k (Some x) b w e = ap (λ (x : BlockNo). x.0) e ∙ w.1
 
 -- the block of a slot: its head, its numbers, and zeros
 pub slot_block : (k : Kind) (i : ℕ) (p : Handle) (ns : List BlockNo) → length ns ≤ 64 → slot_head_bytes k (length ns) i p ++ padded 496 (padded 128 (numbers_bytes (plain ns))) ≡ encode (slotted (slot_record k i p (plain ns)))

@@ -80,6 +80,7 @@ fn encode_numbers(numbers: &[BlockNo]) -> [u8; 128]
     ensures { result ≡ padded 128 (numbers_bytes (plain numbers.now)) }
 {
     let mut bytes = [0; 128];
+    // Kept: an index of bytes; as_chunks_mut gives the pairs, and its contract does not say what the slice ends as.
     for (k, number) in numbers.iter().enumerate() {
         bytes[2 * k..2 * k + 2].copy_from_slice(&number.0.to_le_bytes());
     }

@@ -1,16 +1,12 @@
 -- Links, cell by cell.
-use Rattle.std.proofs.Common.{◌≡◌, ℕ, zero, suc, ◌*◌, ◌<◌, Bool, true, false, cond, ◌⊎◌, List, [], ◌∷◌, ◌++◌, length, get_or, length-append, Option, sym, refl, ap, ◌∙◌, subst, inl, inr, arith}
+use Rattle.std.proofs.Common.{◌≡◌, ℕ, zero, suc, ◌+◌, ◌<◌, ◌≤◌, Bool, true, false, cond, ◌⊎◌, List, [], ◌∷◌, length, get_or, drop, Option, sym, refl, ap, ◌∙◌, subst, inl, inr, arith}
 use Rattle.std.proofs.lemmas.Bool.Decides.{nat_tests}
 use Rattle.std.proofs.lemmas.Grind.{common_steps}
-use Rattle.std.proofs.lemmas.List.{length-set, get_or_past}
-use Rattle.std.proofs.Math.Seq.{take-append_seam, drop-append_seam}
-use Rattle.std.specs.Slice.Iter.{chunks_exact_rest, chunks_exact_size}
-use Rattle.std.specs.declared.slice.ChunksExact.{ChunksExact}
+use Rattle.std.proofs.lemmas.List.{length-set, get_or_past, at_drop_more, at_drop_all}
 use Rattle.base.specs.declared.owner.Kind.TheVariants.{Folder}
 use Rattle.base.specs.declared.owner.Handle.{Handle}
 use Rattle.base.specs.declared.owner.Back.{Back}
-use Rattle.layout.specs.Format.{Name, Cell, Geometry, Slot, Content, blank, cover, slotted, file_body, folder_body, ill_formed, Entry, entry, no_entry, entry_of, cells_of}
-use Rattle.layout.specs.Head.{cells}
+use Rattle.layout.specs.Format.{Name, Cell, Geometry, Slot, Content, blank, cover, slotted, file_body, folder_body, ill_formed, Entry, entry, no_entry, entry_of}
 use Rattle.rule.specs.Agree.{some_is}
 use Rattle.survey.specs.declared.slots.KnownSlot.{KnownSlot}
 use Rattle.survey.specs.declared.slots.Slots.{Slots}
@@ -51,40 +47,24 @@ set_has ss s p h = grind (arith, common_steps, get_or_past)
 
 -- ---- the loop
 
-module _ (g : Geometry) (f : Handle) where
-  -- the cells that are left
-  pub record Left (it : ChunksExact ℕ) (ss all : Slots) : Type 0 where
-    pub size : chunks_exact_size it ≡ 32
-    pub count : ℕ
-    pub long : length (chunks_exact_rest it) ≡ 32 * count
-    pub linked : links g f (cells_of count (chunks_exact_rest it)) ss ≡ all
-
-  pub left_all : (it : ChunksExact ℕ) (z : List ℕ) (ss : Slots) → chunks_exact_size it ≡ 32 → chunks_exact_rest it ≡ z → length z ≡ 480 → Left it ss (links g f (cells z) ss)
-  unfolding cells
-  left_all it z ss size e long =
-      record { size = size; count = 15; long = ap length e ∙ long; linked = ap (λ (y : List ℕ). links g f (cells_of 15 y) ss) e }
-
-  pub left_none : {it : ChunksExact ℕ} {ss all : Slots} → Left it ss all → length (chunks_exact_rest it) < chunks_exact_size it → ss ≡ all
+module _ (g : Geometry) (f : Handle) (es : List Cell) (k : ℕ) (ss all : Slots) where
+  links_step : (e : Cell) (rest : List Cell) (ts : Slots) → links g f (e ∷ rest) ts ≡ links g f rest (link f (entry_of g e) ts)
   unfolding links
-  left_none {it = it} {ss = ss} w low =
-      sym (ap (λ (k : ℕ). links g f (cells_of k (chunks_exact_rest it)) ss) (let e = w.size in let l = w.long in let z : w.count ≡ 0 = omega arith in z)) ∙ w.linked
+  links_step e rest ts = refl
 
-  left_next : (n : ℕ) (rest x next : List ℕ) (ss all : Slots) → length rest ≡ 32 * n → rest ≡ x ++ next → length x ≡ 32 → links g f (cells_of n rest) ss ≡ all →
-      (k : ℕ) × (length next ≡ 32 * k) × (links g f (cells_of k next) (link f (entry_of g x) ss) ≡ all)
+  links_none : (ts : Slots) → links g f [] ts ≡ ts
   unfolding links
-  left_next zero rest x next ss all long e is h = absurd (let k = ap length e in omega (arith, length-append x next))
-  left_next (suc n) rest x next ss all long e is h =
-      let first = take-append_seam x next in
-      let after = drop-append_seam x next in
-      (n, (let k = ap length e in omega (arith, length-append x next)), grind arith)
+  links_none ts = refl
 
   -- one cell less
-  pub left_more : {it : ChunksExact ℕ} {ss all : Slots} → Left it ss all → (x : List ℕ) (next : ChunksExact ℕ) (ss' : Slots) →
-      chunks_exact_size next ≡ chunks_exact_size it → chunks_exact_rest it ≡ x ++ chunks_exact_rest next → length x ≡ chunks_exact_size it →
-      ss' ≡ link f (entry_of g x) ss → Left next ss' all
-  left_more {it = it} {ss = ss} {all = all} w x next ss' size e long is =
-      let t = left_next w.count (chunks_exact_rest it) x (chunks_exact_rest next) ss all w.long e (long ∙ w.size) w.linked in
-      record { size = size ∙ w.size; count = t.0; long = t.1; linked = ap (links g f (cells_of t.0 (chunks_exact_rest next))) is ∙ t.2 }
+  pub left_more : (ss' : Slots) → k < length es → ss' ≡ link f (entry_of g (get_or es k [])) ss → links g f (drop k es) ss ≡ all → links g f (drop (k + 1) es) ss' ≡ all
+  left_more ss' lt is e =
+      ap (links g f (drop (k + 1) es)) is
+      ∙ sym (at_drop_more (λ (xs : List Cell). links g f xs ss) es k [] lt ∙ links_step (get_or es k []) (drop (k + 1) es) ss) ∙ e
+
+  -- none is left
+  pub left_none : length es ≤ k → links g f (drop k es) ss ≡ all → ss ≡ all
+  left_none le e = sym (at_drop_all (λ (xs : List Cell). links g f xs ss) es k le ∙ links_none ss) ∙ e
 
 -- ---- what the links mark
 

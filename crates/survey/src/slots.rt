@@ -9,10 +9,9 @@ ghost use Rattle.walk.specs.Copies.{copied};
 
 use base::number::{BlockNo, SlotNo};
 use base::owner::{Back, Handle, Kind};
-use entries::entry::{Cell, parse_cell};
-use layout::block::{Block, parse};
+use entries::entry::{Cell, cells, parse_cell};
+use layout::block::{Block, FolderBody, parse};
 use layout::geometry::Geometry;
-use layout::owner::names;
 use marks::mark::SlotMark;
 use walk::slot::{SlotCopy, slot_in};
 
@@ -52,7 +51,7 @@ impl KnownSlot {
     fn is_child(&self, folder: &Handle, child: &Handle) -> bool
         ensures { result ≡ child_of folder.now child.now (slot_of self.now) }
     {
-        self.copy.identity == child.identity && names(&self.copy, folder)
+        self.copy.is_child(folder, child)
     }
 }
 
@@ -111,8 +110,7 @@ impl Slots {
     }
 
     // The same for what is in a cell of the folder.
-    fn link_cell(&mut self, g: &Geometry, folder: &Handle, cell: &[u8])
-        requires { length cell.now ≡ 32 }
+    fn link_cell(&mut self, g: &Geometry, folder: &Handle, cell: &[u8; 32])
         ensures { self.new ≡ link folder.now (entry_of (sizes g.now) cell.now) self.old }
     {
         if let Cell::Used(entry) = parse_cell(g, cell) {
@@ -120,14 +118,12 @@ impl Slots {
         }
     }
 
-    // The same for all the cells of a good leaf of the folder.
-    #[tactic(auto, using(crate::proofs::Links::left_all, crate::proofs::Links::left_more))]
-    fn link_cells(&mut self, g: &Geometry, folder: &Handle, payload: &[u8])
-        requires { length payload.now ≡ 480 }
-        ensures { self.new ≡ links (sizes g.now) folder.now (cells payload.now) self.old }
+    // The same for all the cells of a good leaf, of the folder that its back line names.
+    fn link_cells(&mut self, g: &Geometry, body: &FolderBody)
+        ensures { self.new ≡ links (sizes g.now) body.now.back.owner (cells body.now.payload.now) self.old }
     {
-        for cell in payload.chunks_exact(32) {
-            self.link_cell(g, folder, cell);
+        for cell in cells(body.payload) {
+            self.link_cell(g, &body.back.owner, cell);
         }
     }
 
@@ -146,7 +142,7 @@ impl Slots {
             Block::FileBody(body) => self.leaf_line(Kind::File, body.back, at),
             Block::FolderBody(body) => {
                 let line = self.leaf_line(Kind::Folder, body.back, at)?;
-                self.link_cells(g, &line.owner, body.payload);
+                self.link_cells(g, &body);
                 Some(line)
             }
             _ => None,

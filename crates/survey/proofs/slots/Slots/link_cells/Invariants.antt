@@ -1,8 +1,7 @@
-use Rattle.layout.specs.Head.{cells}
+use Rattle.std.proofs.Common.{◌≡◌, drop}
 use Rattle.layout.specs.Sizes.{sizes}
 use Rattle.survey.specs.Known.{links}
-use Rattle.survey.proofs.Links.{Left}
 use Rattle.survey.proofs.slots.Slots.link_cells.Given as goal
 
 abbrev pub invariant-loop-cell : goal.invariant-loop-cell
-invariant-loop-cell l = Left (sizes l.g) l.folder l.cell-iterator l.self (links (sizes l.g) l.folder (cells l.payload) l.initial.self)
+invariant-loop-cell l = links (sizes l.g) l.body.back.owner (drop l.cell-index l.cell-items) l.self ≡ links (sizes l.g) l.body.back.owner l.cell-items l.initial.self
