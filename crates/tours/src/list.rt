@@ -24,6 +24,7 @@ use walk::node::Node;
 fn put_entry(lines: &mut Lines<'_, EntryLine>, name: &[u8], child: &Handle)
     requires { length name.now ≤ 24 }
     ensures added { Adds 1 (entry_line name.now child.now ∷ []) lines.old.count lines.old.lines.now lines.new.count lines.new.lines.now }
+    // Kept: what a `&mut Lines` lends has to be said to be the same slice after the call, here and in each function that takes one.
     ensures same { lines.new.lines.ghost_name ≡ lines.old.lines.ghost_name }
 {
     if let Some(line) = EntryLine::new(name, child) {
@@ -77,6 +78,7 @@ fn list_leaf<D: Device>(
     leaf: LeafNo,
     lines: &mut Lines<'_, EntryLine>,
 ) -> Result<(), Fault>
+    // Kept: one function asks for it, and its caller has just looked at the kind.
     requires { folder.now.slot.kind ≡ Folder }
     ensures added { Lists g.now result 15 (entry_rows (sizes g.now) (shows g.now (D.Device.model device.old)) folder.now.handle (leaf_places (shows g.now (D.Device.model device.old)) folder.now.handle (copied folder.now.slot) leaf.0)) (D.Device.model device.old) (D.Device.model device.new) lines.old lines.new }
     ensures same { lines.new.lines.ghost_name ≡ lines.old.lines.ghost_name }
