@@ -1,6 +1,6 @@
 -- The rows of damage, leaf by leaf and slot by slot.
-use Rattle.std.proofs.Common.{◌≡◌, ℕ, ◌+◌, Bool, true, false, cond, not, List, [], ◌∷◌, ◌++◌, map, get_or, Some, Option, sym, refl, ap, ◌∙◌}
-use Rattle.std.proofs.lemmas.List.{append_assoc, append-nil, map-append}
+use Rattle.std.proofs.Common.{◌≡◌, ℕ, ◌+◌, Bool, true, false, cond, not, List, [], ◌∷◌, ◌++◌, map, get_or, drop, Some, Option, sym, refl, ap, ◌∙◌, arith}
+use Rattle.std.proofs.lemmas.List.{append_assoc, append-nil, drop-drop, get_or-drop, map-append}
 use Rattle.std.proofs.lemmas.Simd.{map-map}
 use Rattle.std.proofs.lemmas.Bool.{cond-true, cond-false}
 use Rattle.base.specs.declared.owner.Handle.{Handle}
@@ -10,6 +10,14 @@ use Rattle.rule.specs.Reading.{DamageLine, bad_leaves_of, bad_leaves}
 use Rattle.listing.specs.declared.line.DamageLine.{DamageLine as DamageRow}
 use Rattle.tours.specs.Damage.{damage_row, leaf_rows, leaves_rows, slot_rows, marked_rows}
 use Rattle.tours.proofs.Rows.{those_append, from_more}
+
+-- the mark that comes next, of marks that are read one after another
+pub next_mark : (marks xs rest : List Bool) (n : ℕ) (b : Bool) → xs ≡ drop n marks → xs ≡ b ∷ rest → (b ≡ get_or marks n false) × (rest ≡ drop (n + 1) marks)
+next_mark marks xs rest n b e q =
+    let d : (b ∷ rest) ≡ drop n marks = sym q ∙ e in (
+      ap (λ (ys : List Bool). get_or ys 0 false) d ∙ get_or-drop n marks 0 false ∙ ap (λ (i : ℕ). get_or marks i false) (omega arith),
+      ap (drop 1) d ∙ drop-drop 1 n marks,
+    )
 
 pub leaves_more : (v : View) (h : Handle) (r : Slot) (k : ℕ) → leaf_rows v h r (from 0 k) ++ leaf_rows v h r (k ∷ []) ≡ leaf_rows v h r (from 0 (k + 1))
 leaves_more v h r k =

@@ -125,9 +125,8 @@ module _ (g : Geometry) (v : View) (f : Handle) where
           parent = w.parent;
         })
 
-    pub leaf_done : (k : ℕ) (es : List Cell) (ms : List Bool) → es ≡ cells_in (v (number r k)) → length es ≡ 15 → CellsDone g v f es 15 ms → LeafDone g v f r k ms
-    leaf_done k es ms q len done fine =
-        subst (λ (x : List Cell). CellsDone g v f x (length x) ms) q (subst (λ (n : ℕ). CellsDone g v f es n ms) (sym len) done)
+    pub leaf_done : (k : ℕ) (es : List Cell) (ms : List Bool) → es ≡ cells_in (v (number r k)) → CellsDone g v f es (length es) ms → LeafDone g v f r k ms
+    leaf_done k es ms q done fine = subst (λ (x : List Cell). CellsDone g v f x (length x) ms) q done
 
 -- ---- the folder in a slot
 

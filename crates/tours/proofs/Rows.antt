@@ -1,6 +1,6 @@
 -- The rows of a folder's entries, cell by cell and leaf by leaf.
-use Rattle.std.proofs.Common.{◌≡◌, ℕ, zero, suc, ◌+◌, ◌<◌, ◌≤◌, Bool, true, false, cond, ltb, List, [], ◌∷◌, ◌++◌, map, length, get_or, take, Option, sym, refl, ap, ◌∙◌, inl, inr, add-one, arith}
-use Rattle.std.proofs.lemmas.List.{append_assoc, append-nil, map-append, take_more, take_all}
+use Rattle.std.proofs.Common.{◌≡◌, ℕ, zero, suc, ◌+◌, ◌<◌, Bool, true, false, cond, ltb, List, [], ◌∷◌, ◌++◌, map, length, get_or, take, Option, sym, refl, ap, ◌∙◌, inl, inr, add-one, arith}
+use Rattle.std.proofs.lemmas.List.{append_assoc, append-nil, map-append, take_more}
 use Rattle.std.proofs.lemmas.Bool.{cond-true, and_parts}
 use Rattle.base.specs.declared.owner.Kind.TheVariants.{File, Folder}
 use Rattle.base.specs.declared.owner.Handle.{Handle}
@@ -54,9 +54,6 @@ module _ (g : Geometry) (v : View) (f : Handle) where
       ∙ sym (ap (cell_rows g v f) (take_more es i [] l)
       ∙ ap (map (λ (e : Cell). entry_row (entry_line (entry_of g e)))) (those_append (λ e. agrees g v f (entry_of g e)) (take i es) (get_or es i [] ∷ []))
       ∙ map-append (λ (e : Cell). entry_row (entry_line (entry_of g e))) (those (λ e. agrees g v f (entry_of g e)) (take i es)) (those (λ e. agrees g v f (entry_of g e)) (get_or es i [] ∷ [])))
-
-  pub rows_all : (es : List Cell) (i : ℕ) → length es ≤ i → cell_rows g v f (take i es) ≡ cell_rows g v f es
-  rows_all es i l = ap (cell_rows g v f) (take_all i es l)
 
   -- the places of a leaf give the rows of its cells
   pub place_rows : (k p : ℕ) (es : List Cell) → entry_rows g v f (places_of k p es) ≡ cell_rows g v f es

@@ -84,9 +84,8 @@ pub fn damage_lines<D: Device>(
     ensures { Says g.now result (λ n. Sofar lines.old (damage_rows (sizes g.now) (shows g.now (D.Device.model device.old)) marks.now) n lines.new) (D.Device.model device.old) (D.Device.model device.new) }
 {
     let mut list = Lines::over(lines);
-    // Kept: the slot's number is what is handed on, and its mark is read by it.
-    for s in 0..g.slots {
-        if marks[s as usize] {
+    for (s, &marked) in (0..g.slots).zip(marks) {
+        if marked {
             check_slot(device, g, SlotNo(s), &mut list)?;
         }
     }

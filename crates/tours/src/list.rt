@@ -2,7 +2,6 @@
 ghost use Rattle.std.specs.Prelude.{◌≡◌, ◌<◌, ◌≤◌, [], ◌∷◌, length, slice_index_or};
 ghost use Rattle.base.specs.declared.owner.Kind.TheVariants.{Folder};
 ghost use Rattle.layout.specs.Sizes.{sizes};
-ghost use Rattle.layout.specs.Head.{cells};
 ghost use Rattle.listing.specs.Lines.{Sofar, entry_line};
 ghost use Rattle.rule.specs.Agree.{places};
 ghost use Rattle.walk.specs.Still.{Says, shows};
@@ -25,6 +24,7 @@ use walk::node::Node;
 fn put_entry(lines: &mut Lines<'_, EntryLine>, name: &[u8], child: &Handle)
     requires { length name.now ≤ 24 }
     ensures added { Adds 1 (entry_line name.now child.now ∷ []) lines.old.count lines.old.lines.now lines.new.count lines.new.lines.now }
+    // Kept: what a `&mut Lines` lends has to be said to be the same slice after the call, here and in each function that takes one.
     ensures same { lines.new.lines.ghost_name ≡ lines.old.lines.ghost_name }
 {
     if let Some(line) = EntryLine::new(name, child) {
@@ -33,19 +33,17 @@ fn put_entry(lines: &mut Lines<'_, EntryLine>, name: &[u8], child: &Handle)
 }
 
 // Adds the entry in a cell of the folder's leaf, if it is sound.
-// Kept: the device and the geometry are two parameters: a struct that lends the device needs in each method a clause more, that it lends the same one.
 fn list_cell<D: Device>(
     device: &mut D,
     g: &Geometry,
     folder: &Handle,
-    bytes: &[u8],
+    cell: &[u8; 32],
     lines: &mut Lines<'_, EntryLine>,
 ) -> Result<(), Fault>
-    requires { length bytes.now ≡ 32 }
-    ensures added { Lists g.now result 1 (cell_rows (sizes g.now) (shows g.now (D.Device.model device.old)) folder.now (bytes.now ∷ [])) (D.Device.model device.old) (D.Device.model device.new) lines.old lines.new }
+    ensures added { Lists g.now result 1 (cell_rows (sizes g.now) (shows g.now (D.Device.model device.old)) folder.now (cell.now ∷ [])) (D.Device.model device.old) (D.Device.model device.new) lines.old lines.new }
     ensures same { lines.new.lines.ghost_name ≡ lines.old.lines.ghost_name }
 {
-    let Cell::Used(entry) = parse_cell(g, bytes) else {
+    let Cell::Used(entry) = parse_cell(g, cell) else {
         return Ok(());
     };
     if read_child(device, g, folder, &entry.child)?.is_some() {
@@ -60,15 +58,14 @@ fn list_cells<D: Device>(
     device: &mut D,
     g: &Geometry,
     folder: &Handle,
-    payload: &[u8],
+    cells: &[[u8; 32]],
     lines: &mut Lines<'_, EntryLine>,
 ) -> Result<(), Fault>
-    requires { length payload.now ≡ 480 }
-    ensures added { Lists g.now result 15 (cell_rows (sizes g.now) (shows g.now (D.Device.model device.old)) folder.now (cells payload.now)) (D.Device.model device.old) (D.Device.model device.new) lines.old lines.new }
+    ensures added { Lists g.now result (length cells.now) (cell_rows (sizes g.now) (shows g.now (D.Device.model device.old)) folder.now cells.now) (D.Device.model device.old) (D.Device.model device.new) lines.old lines.new }
     ensures same { lines.new.lines.ghost_name ≡ lines.old.lines.ghost_name }
 {
-    for bytes in payload.chunks_exact(32) {
-        list_cell(device, g, folder, bytes, lines)?;
+    for cell in cells {
+        list_cell(device, g, folder, cell, lines)?;
     }
     Ok(())
 }
@@ -81,6 +78,7 @@ fn list_leaf<D: Device>(
     leaf: LeafNo,
     lines: &mut Lines<'_, EntryLine>,
 ) -> Result<(), Fault>
+    // Kept: one function asks for it, and its caller has just looked at the kind.
     requires { folder.now.slot.kind ≡ Folder }
     ensures added { Lists g.now result 15 (entry_rows (sizes g.now) (shows g.now (D.Device.model device.old)) folder.now.handle (leaf_places (shows g.now (D.Device.model device.old)) folder.now.handle (copied folder.now.slot) leaf.0)) (D.Device.model device.old) (D.Device.model device.new) lines.old lines.new }
     ensures same { lines.new.lines.ghost_name ≡ lines.old.lines.ghost_name }
@@ -88,7 +86,7 @@ fn list_leaf<D: Device>(
     let Some(copy) = read_leaf(device, g, folder, leaf)? else {
         return Ok(());
     };
-    list_cells(device, g, &folder.handle, copy.folder_bytes(), lines)
+    list_cells(device, g, &folder.handle, copy.cells(), lines)
 }
 
 // Fills the lines with the sound entries of a folder, by leaf, then place, and answers their whole number; a file has none.

@@ -1,7 +1,6 @@
 // Marks of what is reached.
 ghost use Rattle.std.specs.Prelude.{◌≡◌, length};
 ghost use Rattle.layout.specs.Sizes.{sizes};
-ghost use Rattle.layout.specs.Head.{cells};
 ghost use Rattle.walk.specs.Still.{Says, shows};
 ghost use Rattle.walk.specs.Copies.{copied};
 ghost use Rattle.tours.specs.Marks.{Chained, Worked, Chain, CellDone, CellChained, CellsDone, CellsChained, LeafDone, LeavesDone, Done, Open, MarksReached};
@@ -23,13 +22,13 @@ fn mark_cell<D: Device>(
     device: &mut D,
     g: &Geometry,
     folder: &Handle,
-    bytes: &[u8],
+    cell: &[u8; 32],
     work: &mut Work,
 ) -> Result<(), Fault>
-    requires { (length bytes.now ≡ 32) × ((Chained (sizes g.now) (shows g.now (D.Device.model device.old)) work.old) × (CellChained (sizes g.now) (shows g.now (D.Device.model device.old)) folder.now bytes.now)) }
-    ensures { Worked g.now result (CellDone (sizes g.now) (shows g.now (D.Device.model device.old)) folder.now bytes.now) (D.Device.model device.old) (D.Device.model device.new) work.old work.new }
+    requires { (Chained (sizes g.now) (shows g.now (D.Device.model device.old)) work.old) × (CellChained (sizes g.now) (shows g.now (D.Device.model device.old)) folder.now cell.now) }
+    ensures { Worked g.now result (CellDone (sizes g.now) (shows g.now (D.Device.model device.old)) folder.now cell.now) (D.Device.model device.old) (D.Device.model device.new) work.old work.new }
 {
-    let Cell::Used(entry) = parse_cell(g, bytes) else {
+    let Cell::Used(entry) = parse_cell(g, cell) else {
         return Ok(());
     };
     if read_child(device, g, folder, &entry.child)?.is_some() {
@@ -43,14 +42,14 @@ fn mark_cells<D: Device>(
     device: &mut D,
     g: &Geometry,
     folder: &Handle,
-    payload: &[u8],
+    cells: &[[u8; 32]],
     work: &mut Work,
 ) -> Result<(), Fault>
-    requires { (length payload.now ≡ 480) × ((Chained (sizes g.now) (shows g.now (D.Device.model device.old)) work.old) × (CellsChained (sizes g.now) (shows g.now (D.Device.model device.old)) folder.now (cells payload.now))) }
-    ensures { Worked g.now result (CellsDone (sizes g.now) (shows g.now (D.Device.model device.old)) folder.now (cells payload.now) 15) (D.Device.model device.old) (D.Device.model device.new) work.old work.new }
+    requires { (Chained (sizes g.now) (shows g.now (D.Device.model device.old)) work.old) × (CellsChained (sizes g.now) (shows g.now (D.Device.model device.old)) folder.now cells.now) }
+    ensures { Worked g.now result (CellsDone (sizes g.now) (shows g.now (D.Device.model device.old)) folder.now cells.now (length cells.now)) (D.Device.model device.old) (D.Device.model device.new) work.old work.new }
 {
-    for bytes in payload.chunks_exact(32) {
-        mark_cell(device, g, folder, bytes, work)?;
+    for cell in cells {
+        mark_cell(device, g, folder, cell, work)?;
     }
     Ok(())
 }
@@ -69,7 +68,7 @@ fn mark_leaf<D: Device>(
     let Some(copy) = read_leaf(device, g, folder, leaf)? else {
         return Ok(());
     };
-    mark_cells(device, g, &folder.handle, copy.folder_bytes(), work)
+    mark_cells(device, g, &folder.handle, copy.cells(), work)
 }
 
 // Enters the children in the leaves of a folder.

@@ -8,6 +8,7 @@ use base::number::SlotNo;
 #[derive(Drop)]
 pub(crate) struct Work {
     pub(crate) marks: [bool; 256],
+    // Kept: an array with its tail: `ArrayVec::new` asks for a Default, which a slot's number has not, as 0 is the root; and each push would owe that there is room, as `tail` does now.
     queue: [SlotNo; 256],
     head: usize,
     tail: usize,

@@ -13,8 +13,8 @@ returns-then-is_some g c =
     let n = c.in-Used.entry.name.now in
     let child = c.in-Used.entry.child in
     let e = c.in_ok-read_child.ensures in
-    let here = c.in-Used.ensures.leads c.requires.0 in
+    let here = c.in-Used.ensures.leads (search rules) in
     let sound = child_there z v f n child _ e.1 (sym c.if-is_some.ensures) in
     let small : c.in-Used.entry.child.slot.0 < 256 = search rules in
-    let went = entered z v c.args.work.now c.enter.new.self child.slot c.requires.1.0 small (c.requires.1.1 n child (sym here) sound) c.enter.ensures in
-    (e.0, (went.0, one_done z v f c.args.bytes.now n child _ here went.1))
+    let went = entered z v c.args.work.now c.enter.new.self child.slot c.requires.0 small (c.requires.1 n child (sym here) sound) c.enter.ensures in
+    (e.0, (went.0, one_done z v f c.args.cell.now n child _ here went.1))

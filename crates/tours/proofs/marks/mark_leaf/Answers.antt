@@ -1,7 +1,5 @@
-use Rattle.std.proofs.Common.{ap, sym, subst}
-use Rattle.layout.specs.Head.{cells}
+use Rattle.std.proofs.Common.{length, sym, subst}
 use Rattle.layout.specs.Sizes.{sizes}
-use Rattle.layout.proofs.Cells.{length_cells}
 use Rattle.rule.specs.Agree.{Shown, seen}
 use Rattle.walk.specs.Copies.{copied, LeafIs}
 use Rattle.tours.specs.Marks.{Chained, CellsChained, CellsDone, LeafDone}
@@ -19,14 +17,11 @@ mark_cells-requires g c =
     let l = c.in-Some.copy in
     let e = c.in_ok-copy.ensures in
     let is = subst (LeafIs (seen z m.shown) f r c.args.leaf.0) c.in-Some.is e.1 in
-    let es = cells c.folder_bytes.result.now in
-    let same = leaf_cells z (seen z m.shown) f r c.args.leaf.0 l es (ap cells c.folder_bytes.ensures.value) c.requires.0.kind is.0 is.1 in (
-      c.folder_bytes.ensures.count,
-      (
-        moved (λ (sh : Shown). Chained z (seen z sh) c.args.work.now) m k e.0 c.requires.1,
-        moved (λ (sh : Shown). CellsChained z (seen z sh) f es) m k e.0
-            (subst (CellsChained z (seen z m.shown) f) (sym same) (leaf_chained z (seen z m.shown) f r c.args.leaf.0 c.requires.0 is.0)),
-      ),
+    let es = c.cells.result.now in
+    let same = leaf_cells z (seen z m.shown) f r c.args.leaf.0 l es c.cells.ensures.value c.requires.0.kind is.0 is.1 in (
+      moved (λ (sh : Shown). Chained z (seen z sh) c.args.work.now) m k e.0 c.requires.1,
+      moved (λ (sh : Shown). CellsChained z (seen z sh) f es) m k e.0
+          (subst (CellsChained z (seen z m.shown) f) (sym same) (leaf_chained z (seen z m.shown) f r c.args.leaf.0 c.requires.0 is.0)),
     )
 
 pub returns : goal.returns
@@ -37,11 +32,11 @@ returns g c =
     let f = c.args.folder.now.handle in
     let r = copied c.args.folder.now.slot in
     let l = c.in-Some.copy in
-    let es = cells c.folder_bytes.result.now in
+    let es = c.cells.result.now in
     let e = c.in_ok-copy.ensures in
     let is = subst (LeafIs (seen z m.shown) f r c.args.leaf.0) c.in-Some.is e.1 in
-    let same = leaf_cells z (seen z m.shown) f r c.args.leaf.0 l es (ap cells c.folder_bytes.ensures.value) c.requires.0.kind is.0 is.1 in
+    let same = leaf_cells z (seen z m.shown) f r c.args.leaf.0 l es c.cells.ensures.value c.requires.0.kind is.0 is.1 in
     let ms' = c.mark_cells.new.work.marks in
-    worked_then c.args.g.now c.mark_cells.result (CellsDone z (seen z k.shown) f es 15) (LeafDone z (seen z m.shown) f r c.args.leaf.0) m k _ c.args.work.now c.mark_cells.new.work e.0
-    (λ h. leaf_done z (seen z m.shown) f r c.args.leaf.0 es ms' same (length_cells c.folder_bytes.result.now) (moved_back (λ (sh : Shown). CellsDone z (seen z sh) f es 15 ms') m k e.0 h))
+    worked_then c.args.g.now c.mark_cells.result (CellsDone z (seen z k.shown) f es (length es)) (LeafDone z (seen z m.shown) f r c.args.leaf.0) m k _ c.args.work.now c.mark_cells.new.work e.0
+    (λ h. leaf_done z (seen z m.shown) f r c.args.leaf.0 es ms' same (moved_back (λ (sh : Shown). CellsDone z (seen z sh) f es (length es) ms') m k e.0 h))
     c.mark_cells.ensures
