@@ -91,7 +91,7 @@ facts = collections.Counter()
 for f, text in texts.items():
     for line in text.splitlines():
         if re.match(CLAUSE, line):
-            for fact in set(re.findall(r"(Fitting|ValidOpened|Valid|Inside|Sized|SlotSized|Sane|Whole|Open|Chain|Grounded|length \w+\.now ≡ \d+|length \w+\.now ≤ \d+|slot\.now\.kind ≡ \w+|gone ≡ \w+)\b", line)):
+            for fact in set(re.findall(r"(Fitting|ValidOpened|Valid|Inside|Sized|SlotSized|Sane|Whole|Open|Chain|Grounded|length \w+\.now ≡ \d+|length \w+\.now ≤ \d+|slot\.(?:now\.)?kind ≡ \w+|gone ≡ \w+)\b", line)):
                 facts[(name(f).split("/")[0], fact)] += 1
 print("\n## 5b facts in three or more clauses of a crate:", sum(1 for n in facts.values() if n >= 3))
 for (crate, fact), n in sorted(facts.items(), key=lambda x: -x[1]):
