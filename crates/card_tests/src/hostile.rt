@@ -103,7 +103,7 @@ fn stir(x: u32) -> u32 {
 // Fills the image from a place on, and answers the seed for the next.
 fn scramble(image: &mut [u8; SIZE], from: usize, seed: u32) -> u32 {
     let mut x = seed;
-    for byte in &mut image[from..] {
+    for byte in image.iter_mut().skip(from) {
         x = stir(x);
         *byte = (x % 256) as u8;
     }

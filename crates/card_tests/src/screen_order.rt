@@ -6,7 +6,7 @@ use screen::leaf::gildreyk_leaf;
 
 // The answer, and the first byte of a buffer of N sevens after it.
 fn told<const N: usize>(image: &[u8], path: &[u8], leaf: u32) -> (u32, u8)
-    requires { 0 < N }
+    requires { (0 < N) × (N < 4096) }
 {
     let mut out = [7u8; N];
     let answer = gildreyk_leaf(image, path, leaf, &mut out);
