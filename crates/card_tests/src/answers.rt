@@ -4,6 +4,7 @@ use base::number::{Identity, LeafNo, SlotNo};
 use base::owner::{Handle, Kind};
 use base::refusal::Refusal;
 use card::opened::open;
+use card::readable::Readable;
 use device::plain::Plain;
 use listing::line::{DamageLine, EntryLine};
 use walk::path::ROOT;

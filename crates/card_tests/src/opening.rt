@@ -5,11 +5,23 @@ use crate::told::{Told, ask};
 use base::number::{BlockNo, LeafNo};
 use base::refusal::{PathRefusal, Refusal};
 use card::opened::open;
+use card::readable::Readable;
 use device::plain::Plain;
 use walk::path::ROOT;
 
-fn told(image: &mut [u8]) -> Told {
-    ask(&mut open(Plain::new(image)))
+// What the calls of a card tell, a step of its survey, and the calls of the card once it is surveyed.
+type All = (Told, Option<Refusal>, Told);
+
+fn told(image: &mut [u8]) -> All {
+    let mut card = open(Plain::new(image));
+    let opened = ask(&mut card);
+    let step = card.step().err();
+    (opened, step, ask(&mut card.end()))
+}
+
+fn always(refusal: Refusal) -> All {
+    let each = Told::each(refusal);
+    (each, Some(refusal), each)
 }
 
 // The example with another first byte in its cover, and with another kind of root.
@@ -22,18 +34,18 @@ fn example_with(cover: u8, root: u8) -> [u8; SIZE] {
 
 #[test]
 fn each_call_tells_why_a_card_is_bad(rt: HostRuntime) {
-    assert_eq!(rt; told(&mut example()), Told::NOTHING);
-    let no_cover = Told::each(Refusal::BadCard(BlockNo(0)));
+    assert_eq!(rt; told(&mut example()), (Told::NOTHING, None, Told::NOTHING));
+    let no_cover = always(Refusal::BadCard(BlockNo(0)));
     assert_eq!(rt; told(&mut []), no_cover);
     assert_eq!(rt; told(&mut example()[..511]), no_cover);
     assert_eq!(rt; told(&mut example_with(2, 3)), no_cover);
     assert_eq!(rt;
         told(&mut example()[..SIZE - 1]),
-        Told::each(Refusal::SmallDevice(12))
+        always(Refusal::SmallDevice(12))
     );
     assert_eq!(rt;
         told(&mut example_with(1, 2)),
-        Told::each(Refusal::BadCard(BlockNo(1)))
+        always(Refusal::BadCard(BlockNo(1)))
     );
 }
 
@@ -41,11 +53,11 @@ fn each_call_tells_why_a_card_is_bad(rt: HostRuntime) {
 fn the_cover_then_the_size_then_the_root(rt: HostRuntime) {
     assert_eq!(rt;
         told(&mut example_with(2, 2)[..512]),
-        Told::each(Refusal::BadCard(BlockNo(0)))
+        always(Refusal::BadCard(BlockNo(0)))
     );
     assert_eq!(rt;
         told(&mut example_with(1, 2)[..1024]),
-        Told::each(Refusal::SmallDevice(12))
+        always(Refusal::SmallDevice(12))
     );
 }
 
@@ -73,7 +85,8 @@ fn power_gone_once_met_is_told_ever_after(rt: HostRuntime) {
         })
     );
     assert_eq!(rt; ask(&mut card), Told::each(gone));
-    let surveyed = card.end();
+    let mut surveyed = card.end();
+    assert_eq!(rt; ask(&mut surveyed), Told::each(gone));
     assert_eq!(rt; surveyed.space().err(), Some(gone));
 }
 

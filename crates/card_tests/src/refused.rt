@@ -5,8 +5,8 @@ use crate::image::{example, handle};
 use base::number::{BlockNo, LeafNo, SlotNo};
 use base::owner::Handle;
 use base::refusal::{PathRefusal, Refusal};
-use card::opened::{Opened, open};
-use device::Device;
+use card::opened::open;
+use card::readable::Readable;
 use device::plain::Plain;
 use listing::line::{NO_DAMAGE, NO_ENTRY};
 use walk::path::ROOT;
@@ -86,7 +86,7 @@ fn of_a_list_and_a_status(rt: HostRuntime) {
 }
 
 // The refusal of a read into a buffer of 496 sevens; none if the buffer is not as it was.
-fn unread<D: Device>(card: &mut Opened<D>, file: &Handle, leaf: u16) -> Option<Refusal> {
+fn unread<C: Readable>(card: &mut C, file: &Handle, leaf: u16) -> Option<Refusal> {
     let mut buffer = [7u8; 496];
     let refusal = card.read(file, LeafNo(leaf), &mut buffer).err()?;
     (buffer == [7u8; 496]).then_some(refusal)

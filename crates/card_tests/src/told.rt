@@ -1,9 +1,8 @@
-// The reading calls and a step of the survey, each asked once for what a good card has.
+// The reading calls, each asked once for what a good card has.
 use crate::image::handle;
 use base::number::LeafNo;
 use base::refusal::{PathRefusal, Refusal};
-use card::opened::Opened;
-use device::Device;
+use card::readable::Readable;
 use listing::line::{NO_DAMAGE, NO_ENTRY};
 use walk::path::ROOT;
 
@@ -16,7 +15,6 @@ pub struct Told {
     pub status: Option<Refusal>,
     pub damage: Option<Refusal>,
     pub read: Option<Refusal>,
-    pub step: Option<Refusal>,
 }
 
 impl Told {
@@ -27,7 +25,6 @@ impl Told {
         status: None,
         damage: None,
         read: None,
-        step: None,
     };
 
     // Every call is refused with this; a path has come to no component.
@@ -42,12 +39,11 @@ impl Told {
             status: Some(refusal),
             damage: Some(refusal),
             read: Some(refusal),
-            step: Some(refusal),
         }
     }
 }
 
-pub fn ask<D: Device>(card: &mut Opened<D>) -> Told {
+pub fn ask<C: Readable>(card: &mut C) -> Told {
     let mut entries = [NO_ENTRY; 4];
     let mut damage = [NO_DAMAGE; 4];
     let mut buffer = [0u8; 496];
@@ -58,6 +54,5 @@ pub fn ask<D: Device>(card: &mut Opened<D>) -> Told {
         status: card.status(&ROOT).err(),
         damage: card.damage(&mut damage).err(),
         read: card.read(&handle(1, 2), LeafNo(0), &mut buffer).err(),
-        step: card.step().err(),
     }
 }
