@@ -1,7 +1,7 @@
 // The shop's command over card images.
 #![tactic(auto)]
 
-use anyhow::{Context, anyhow};
+use anyhow::anyhow;
 use std::{env, fs};
 
 mod blocks;
@@ -20,7 +20,7 @@ fn load(rt: &HostRuntime, command: &str, name: Option<String>) -> anyhow::Result
     let Some(path) = name else {
         return Err(anyhow!("{command}: name an image"));
     };
-    fs::read(rt, path.as_str()).with_context(|| anyhow!("{path} cannot be read"))
+    Ok(fs::read(rt, path.as_str())?)
 }
 
 // Does what the words of the command line ask for.
@@ -43,7 +43,7 @@ fn run(rt: &HostRuntime) -> anyhow::Result<()> {
             tree::print(rt, rt.alloc(), image.as_mut_slice())
         }
         "help" => Ok(println!(rt; "{HELP}")?),
-        _ => Err(anyhow!("no such command as {command}: try gildreyk help")),
+        _ => Err(anyhow!("no such command: try gildreyk help")),
     }
 }
 
