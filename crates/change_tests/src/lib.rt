@@ -1,0 +1,8 @@
+// Examples of the survey and of the changing calls, run: the worked cases, the limits, what is written, what is read
+// and written of the device, and what becomes of hostile images.
+#![tactic(auto)]
+
+#[cfg(test)]
+mod cases;
+#[cfg(test)]
+mod table;
