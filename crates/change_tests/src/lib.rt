@@ -5,4 +5,14 @@
 #[cfg(test)]
 mod cases;
 #[cfg(test)]
+mod leaves;
+#[cfg(test)]
+mod limits;
+#[cfg(test)]
+mod power_gone;
+#[cfg(test)]
+mod refusals;
+#[cfg(test)]
+mod survey;
+#[cfg(test)]
 mod table;

@@ -4,6 +4,7 @@ use base::owner::{Handle, Kind};
 use base::refusal::{Layer, PathRefusal, Refusal};
 use card::opened::open;
 use card::surveyed::Surveyed;
+use device::Device;
 use format::format;
 use listing::line::NO_DAMAGE;
 use power::PowerCut;
@@ -165,6 +166,18 @@ pub fn new_card(heap: Global, blocks: u16, slots: u16) -> Result<Surveyed<Ledger
     let mut device = Ledger::new(heap, blocks, 256)?;
     format(&mut device, blocks, slots)?;
     Ok(open(device).end())
+}
+
+// An image on a device that keeps what may stand.
+pub fn on_device(heap: Global, image: &[u8]) -> Result<Ledger, Fail> {
+    let (blocks, _) = image.as_chunks::<512>();
+    let count = u16::try_from(blocks.len())?;
+    let mut device = Ledger::new(heap, count, 256)?;
+    for (at, bytes) in (0..count).zip(blocks) {
+        device.write(BlockNo(at), bytes)?;
+    }
+    device.sync()?;
+    Ok(device)
 }
 
 // What a cut leaves of a block: what had landed for sure, or the last of up to 11 writes since (27,720 is a multiple of
