@@ -5,9 +5,15 @@
 #[cfg(test)]
 mod cases;
 #[cfg(test)]
+mod counted;
+#[cfg(test)]
+mod hostile;
+#[cfg(test)]
 mod leaves;
 #[cfg(test)]
 mod limits;
+#[cfg(test)]
+mod owners;
 #[cfg(test)]
 mod power_gone;
 #[cfg(test)]

@@ -196,7 +196,7 @@ fn a_file_has_64_leaves_at_most(rt: HostRuntime) -> Result<(), Fail> {
 fn the_16th_entry_gives_its_folder_a_leaf(rt: HostRuntime) -> Result<(), Fail> {
     let mut card = new_card(rt.alloc(), 25, 20)?;
     for slot in 1u16..16 {
-        let made = card.create(Kind::File, &ROOT, &slot.to_be_bytes().map(|b| b + 97));
+        let made = card.create(Kind::File, &ROOT, &slot.saturating_add(24929).to_be_bytes());
         assert_eq!(rt; made, Ok(handle(slot, slot as u32 + 1)));
     }
     holds(

@@ -71,7 +71,7 @@ fn at(answer: Result<Handle, Refusal>) -> Reply {
     answer.map_or_else(refused, |handle| Reply::At(handle))
 }
 
-fn read(card: &mut Surveyed<Ledger>, file: &Handle, leaf: u16) -> Reply {
+fn read<D: Device>(card: &mut Surveyed<D>, file: &Handle, leaf: u16) -> Reply {
     let mut buffer = [0; 496];
     match card.read(file, LeafNo(leaf), &mut buffer) {
         Ok(length) => Reply::Leaf(length, [buffer[0], buffer[1], buffer[2]]),
@@ -79,21 +79,21 @@ fn read(card: &mut Surveyed<Ledger>, file: &Handle, leaf: u16) -> Reply {
     }
 }
 
-fn status(card: &mut Surveyed<Ledger>, handle: &Handle) -> Reply {
+fn status<D: Device>(card: &mut Surveyed<D>, handle: &Handle) -> Reply {
     match card.status(handle) {
         Ok(status) => Reply::Is(status.kind, status.count, status.parent),
         Err(refusal) => refused(refusal),
     }
 }
 
-fn space(card: &Surveyed<Ledger>) -> Reply {
+fn space<D: Device>(card: &Surveyed<D>) -> Reply {
     match card.space() {
         Ok(space) => Reply::Free(space.bodies, space.slots),
         Err(refusal) => refused(refusal),
     }
 }
 
-pub fn answer(card: &mut Surveyed<Ledger>, ask: &Ask) -> Reply {
+pub fn answer<D: Device>(card: &mut Surveyed<D>, ask: &Ask) -> Reply {
     match ask {
         Ask::Create(kind, folder, name) => at(card.create(*kind, folder, name)),
         Ask::Write(file, leaf, bytes) => done(card.write(file, LeafNo(*leaf), bytes)),
@@ -114,7 +114,7 @@ pub fn answer(card: &mut Surveyed<Ledger>, ask: &Ask) -> Reply {
 }
 
 // What each block of the device shows.
-fn shown(heap: Global, device: &Ledger) -> Result<Vec<[u8; 512]>, Fail> {
+pub fn shown(heap: Global, device: &Ledger) -> Result<Vec<[u8; 512]>, Fail> {
     let mut all = Vec::new(heap);
     for at in 0..u16::MAX {
         let Some(bytes) = device.shown(BlockNo(at)) else {
@@ -126,7 +126,7 @@ fn shown(heap: Global, device: &Ledger) -> Result<Vec<[u8; 512]>, Fail> {
 }
 
 // The blocks that differ, in order.
-fn differing(heap: Global, old: &[[u8; 512]], new: &[[u8; 512]]) -> Result<Vec<u16>, Fail> {
+pub fn differing(heap: Global, old: &[[u8; 512]], new: &[[u8; 512]]) -> Result<Vec<u16>, Fail> {
     let mut all = Vec::new(heap);
     for (at, (a, b)) in (0..u16::MAX).zip(old.iter().zip(new)) {
         if a != b {
@@ -163,7 +163,7 @@ pub fn begins(card: &Surveyed<Ledger>, at: u16, bytes: &[u8]) -> bool {
 
 // A new card of so many blocks and slots, surveyed.
 pub fn new_card(heap: Global, blocks: u16, slots: u16) -> Result<Surveyed<Ledger>, Fail> {
-    let mut device = Ledger::new(heap, blocks, 256)?;
+    let mut device = Ledger::new(heap, blocks, 64)?;
     format(&mut device, blocks, slots)?;
     Ok(open(device).end())
 }
@@ -172,7 +172,7 @@ pub fn new_card(heap: Global, blocks: u16, slots: u16) -> Result<Surveyed<Ledger
 pub fn on_device(heap: Global, image: &[u8]) -> Result<Ledger, Fail> {
     let (blocks, _) = image.as_chunks::<512>();
     let count = u16::try_from(blocks.len())?;
-    let mut device = Ledger::new(heap, count, 256)?;
+    let mut device = Ledger::new(heap, count, 64)?;
     for (at, bytes) in (0..count).zip(blocks) {
         device.write(BlockNo(at), bytes)?;
     }
