@@ -180,7 +180,7 @@ fn ask_all(heap: Global, image: &[u8; SIZE], dice: &mut Dice, many: u16) -> Resu
 // Fills an image with random bytes from a place on.
 fn scramble(image: &mut [u8; SIZE], from: usize, dice: &mut Dice) {
     for byte in image.iter_mut().skip(from) {
-        *byte = dice.below(256) as u8;
+        *byte = (dice.below(256) % 256) as u8;
     }
 }
 

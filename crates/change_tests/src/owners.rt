@@ -101,20 +101,19 @@ fn sound_child(image: &Image, s: u16, body: u16, at: usize) -> Option<u16> {
     sound.then_some(child)
 }
 
-// The slots that are reached, once the children of folders are added that a sound entry names.
-fn with_children(image: &Image, before: [bool; 4]) -> [bool; 4] {
-    let mut reached = before;
+// Adds the children of reached folders that a sound entry names.
+fn add_reached(image: &Image, reached: &mut [bool; 4]) {
+    let before = *reached;
     for (s, known) in (0..SLOTS).zip(before) {
         if !known || !is_folder(image, s) {
             continue;
         }
         for k in 0..count(image, s).min(64) {
             if is_good(image, s, k) {
-                add_children(image, s, number(image, s, k), &mut reached);
+                add_children(image, s, number(image, s, k), reached);
             }
         }
     }
-    reached
 }
 
 fn add_children(image: &Image, s: u16, body: u16, reached: &mut [bool; 4]) {
@@ -131,7 +130,7 @@ fn add_children(image: &Image, s: u16, body: u16, reached: &mut [bool; 4]) {
 fn reached(image: &Image) -> [bool; 4] {
     let mut all = [true, false, false, false];
     for _ in 0..SLOTS {
-        all = with_children(image, all);
+        add_reached(image, &mut all);
     }
     all
 }
