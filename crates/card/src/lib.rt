@@ -8,4 +8,5 @@ pub mod lists;
 pub mod open;
 pub mod opened;
 mod progress;
+pub mod readable;
 pub mod surveyed;

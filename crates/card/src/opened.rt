@@ -7,6 +7,7 @@ ghost use Rattle.card.specs.Valid.{Seen, opened_state};
 
 use crate::inner::{Core, Status};
 use crate::progress::Progress;
+use crate::readable::Readable;
 use crate::surveyed::Surveyed;
 use base::number::{Identity, LeafNo};
 use base::owner::Handle;
@@ -45,69 +46,11 @@ pub fn open<D: Device>(device: D) -> Opened<D>
 }
 
 impl<D: Device> Opened<D> {
-    ghost use Rattle.std.specs.Prelude.{ℕ, List, length};
     ghost use Rattle.std.specs.Result.{result_map_both};
-    ghost use Rattle.base.specs.declared.refusal.Refusal.TheVariants.{PowerGone};
-    ghost use Rattle.history.specs.Events.{Reads, Surveys, Ends};
-    ghost use Rattle.rule.specs.Check.{Answer};
-    ghost use Rattle.rule.specs.Reading as reading;
-    ghost use Rattle.tours.specs.Lists.{entry_row};
-    ghost use Rattle.tours.specs.Damage.{damage_row};
-    ghost use Rattle.card_lists.specs.Lined.{zero_entry, zero_damage};
-    ghost use Rattle.card_lists.specs.Ready.{LinesOf};
-    ghost use Rattle.card.specs.Calls.{Fills};
+    ghost use Rattle.history.specs.Events.{Surveys, Ends};
     ghost use Rattle.card.specs.Opened.{on};
     ghost use Rattle.card.specs.Surveyed.{on as surveyed_on};
-    ghost use Rattle.card.specs.Views.{status_view, surveying_view};
-
-    // The child of a folder that has the name: the first sound entry, by leaf, then place.
-    pub fn find(&mut self, folder: &Handle, name: &[u8]) -> Result<Handle, Refusal>
-        ensures reads { Reads PowerGone (reading.find folder.now name.now) (on self.old) result (on self.new) }
-    {
-        self.core.find(folder, name)
-    }
-
-    // Kind, leaf count and parent.
-    pub fn status(&mut self, handle: &Handle) -> Result<Status, Refusal>
-        ensures reads { Reads PowerGone (reading.status handle.now) (on self.old) (result_map_both status_view (λ e. e) result) (on self.new) }
-    {
-        self.core.status(handle)
-    }
-
-    // The sound entries of a folder, by leaf, then place, into the front of the lines; answers how many there are. Lines
-    // beyond stay as they are, and all of them after a refusal, but power gone makes every line zero.
-    pub fn list(&mut self, folder: &Handle, lines: &mut [EntryLine]) -> Result<usize, Refusal>
-        ensures reads { (a : Answer (List reading.EntryLine)) × Reads PowerGone (reading.list folder.now) (on self.old) a (on self.new) × LinesOf entry_row zero_entry a result lines.old lines.new }
-    {
-        self.core.list(folder, lines)
-    }
-
-    // The leaves of reached slots that are not good, by slot and leaf, into the front of the lines, as `list` does.
-    pub fn damage(&mut self, lines: &mut [DamageLine]) -> Result<usize, Refusal>
-        ensures reads { (a : Answer (List reading.DamageLine)) × Reads PowerGone reading.damage (on self.old) a (on self.new) × LinesOf damage_row zero_damage a result lines.old lines.new }
-    {
-        self.core.damage(lines)
-    }
-
-    // The file or folder that a path leads to, from the root. A refusal tells the component too.
-    pub fn path(&mut self, path: &[u8]) -> Result<Handle, PathRefusal>
-        ensures reads { (i : ℕ) × Reads (λ b. record { lower = PowerGone b; component = i }) (reading.path path.now) (on self.old) result (on self.new) }
-    {
-        self.core.path(path)
-    }
-
-    // A leaf of a file, into the front of a buffer of at least 496 bytes; answers how many. The rest of the buffer stays
-    // as it is, and any refusal leaves all of it so.
-    pub fn read(
-        &mut self,
-        handle: &Handle,
-        leaf: LeafNo,
-        buffer: &mut [u8],
-    ) -> Result<usize, Refusal>
-        ensures reads { (a : Answer (List ℕ)) × Reads PowerGone (reading.read handle.now leaf.0 (length buffer.old)) (on self.old) a (on self.new) × Fills a result buffer.old buffer.new }
-    {
-        self.core.read(handle, leaf, buffer)
-    }
+    ghost use Rattle.card.specs.Views.{surveying_view};
 
     // The device, to be looked at from outside.
     pub fn device(&self) -> &D
@@ -157,6 +100,36 @@ impl<D: Device> Opened<D> {
             memory: first_memory(&g, progress.highest),
             marks: progress.survey.finish(&g),
         }
+    }
+}
+
+impl<D: Device> Readable for Opened<D> {
+    ghost use Rattle.card.specs.Opened.{on as opened_on};
+
+    ghost on = { λ c. opened_on c };
+
+    fn find(&mut self, folder: &Handle, name: &[u8]) -> Result<Handle, Refusal> {
+        self.core.find(folder, name)
+    }
+
+    fn path(&mut self, path: &[u8]) -> Result<Handle, PathRefusal> {
+        self.core.path(path)
+    }
+
+    fn list(&mut self, folder: &Handle, lines: &mut [EntryLine]) -> Result<usize, Refusal> {
+        self.core.list(folder, lines)
+    }
+
+    fn status(&mut self, handle: &Handle) -> Result<Status, Refusal> {
+        self.core.status(handle)
+    }
+
+    fn damage(&mut self, lines: &mut [DamageLine]) -> Result<usize, Refusal> {
+        self.core.damage(lines)
+    }
+
+    fn read(&mut self, handle: &Handle, leaf: LeafNo, buffer: &mut [u8]) -> Result<usize, Refusal> {
+        self.core.read(handle, leaf, buffer)
     }
 }
 

@@ -8,6 +8,7 @@ ghost use Rattle.card.specs.Once.{Known-prop};
 ghost use Rattle.card.specs.Valid.{Known as IsKnown};
 
 use crate::inner::{Core, Status};
+use crate::readable::Readable;
 use base::number::LeafNo;
 use base::owner::{Back, Handle, Kind};
 use base::refusal::{PathRefusal, Refusal};
@@ -53,70 +54,14 @@ fn mark_gained(marks: &mut Marks, gained: Option<Gained>, owner: &Handle)
     }
 }
 
-// Kept: the reading calls stand here and in `Opened`, a line each over `Core`: a common trait would lend `&mut Core`, which may break `known`; a generic card asks for a trait of four ghost members, and is no plainer.
 impl<D: Device> Surveyed<D> {
-    ghost use Rattle.std.specs.Prelude.{List, length};
     ghost use Rattle.std.specs.Result.{result_map_both as mapped_answer};
     ghost use Rattle.base.specs.declared.refusal.Refusal.TheVariants.{PowerGone};
     ghost use Rattle.rule.specs.Changing as changing;
-    ghost use Rattle.rule.specs.Check.{Answer};
     ghost use Rattle.rule.specs.Reading as reading;
     ghost use Rattle.history.specs.Events.{Reads, Changes, Syncs};
-    ghost use Rattle.tours.specs.Lists.{entry_row};
-    ghost use Rattle.tours.specs.Damage.{damage_row};
-    ghost use Rattle.card_lists.specs.Lined.{zero_entry, zero_damage};
-    ghost use Rattle.card_lists.specs.Ready.{LinesOf};
-    ghost use Rattle.card.specs.Calls.{Fills};
     ghost use Rattle.card.specs.Surveyed.{on};
-    ghost use Rattle.card.specs.Views.{status_view, space_view};
-
-    // The child of a folder that has the name: the first sound entry, by leaf, then place.
-    pub fn find(&mut self, folder: &Handle, name: &[u8]) -> Result<Handle, Refusal>
-        ensures reads { Reads PowerGone (reading.find folder.now name.now) (on self.old) result (on self.new) }
-    {
-        self.core.find(folder, name)
-    }
-
-    // The file or folder that a path leads to, from the root. A refusal tells the component too.
-    pub fn path(&mut self, path: &[u8]) -> Result<Handle, PathRefusal>
-        ensures reads { (i : ℕ) × Reads (λ b. record { lower = PowerGone b; component = i }) (reading.path path.now) (on self.old) result (on self.new) }
-    {
-        self.core.path(path)
-    }
-
-    // Kind, leaf count and parent.
-    pub fn status(&mut self, handle: &Handle) -> Result<Status, Refusal>
-        ensures reads { Reads PowerGone (reading.status handle.now) (on self.old) (mapped_answer status_view (λ e. e) result) (on self.new) }
-    {
-        self.core.status(handle)
-    }
-
-    // A leaf of a file, into the front of a buffer of at least 496 bytes; answers how many. The rest of the buffer stays
-    // as it is, and any refusal leaves all of it so.
-    pub fn read(
-        &mut self,
-        handle: &Handle,
-        leaf: LeafNo,
-        buffer: &mut [u8],
-    ) -> Result<usize, Refusal>
-        ensures reads { (a : Answer (List ℕ)) × Reads PowerGone (reading.read handle.now leaf.0 (length buffer.old)) (on self.old) a (on self.new) × Fills a result buffer.old buffer.new }
-    {
-        self.core.read(handle, leaf, buffer)
-    }
-
-    // The sound entries of a folder, into the front of the lines; answers how many there are.
-    pub fn list(&mut self, folder: &Handle, lines: &mut [EntryLine]) -> Result<usize, Refusal>
-        ensures reads { (a : Answer (List reading.EntryLine)) × Reads PowerGone (reading.list folder.now) (on self.old) a (on self.new) × LinesOf entry_row zero_entry a result lines.old lines.new }
-    {
-        self.core.list(folder, lines)
-    }
-
-    // The leaves of reached slots that are not good, into the front of the lines; answers how many there are.
-    pub fn damage(&mut self, lines: &mut [DamageLine]) -> Result<usize, Refusal>
-        ensures reads { (a : Answer (List reading.DamageLine)) × Reads PowerGone reading.damage (on self.old) a (on self.new) × LinesOf damage_row zero_damage a result lines.old lines.new }
-    {
-        self.core.damage(lines)
-    }
+    ghost use Rattle.card.specs.Views.{space_view};
 
     // How many bodies and slots are free: no device call.
     pub fn space(&self) -> Result<Space, Refusal>
@@ -224,6 +169,36 @@ impl<D: Device> Surveyed<D> {
         ensures { result.now ≡ self.now.core.device }
     {
         &self.core.device
+    }
+}
+
+impl<D: Device> Readable for Surveyed<D> {
+    ghost use Rattle.card.specs.Surveyed.{on as surveyed_on};
+
+    ghost on = { λ c. surveyed_on c };
+
+    fn find(&mut self, folder: &Handle, name: &[u8]) -> Result<Handle, Refusal> {
+        self.core.find(folder, name)
+    }
+
+    fn path(&mut self, path: &[u8]) -> Result<Handle, PathRefusal> {
+        self.core.path(path)
+    }
+
+    fn list(&mut self, folder: &Handle, lines: &mut [EntryLine]) -> Result<usize, Refusal> {
+        self.core.list(folder, lines)
+    }
+
+    fn status(&mut self, handle: &Handle) -> Result<Status, Refusal> {
+        self.core.status(handle)
+    }
+
+    fn damage(&mut self, lines: &mut [DamageLine]) -> Result<usize, Refusal> {
+        self.core.damage(lines)
+    }
+
+    fn read(&mut self, handle: &Handle, leaf: LeafNo, buffer: &mut [u8]) -> Result<usize, Refusal> {
+        self.core.read(handle, leaf, buffer)
     }
 }
 

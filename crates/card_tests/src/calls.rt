@@ -5,6 +5,7 @@ use base::owner::Handle;
 use base::refusal::{PathRefusal, Refusal};
 use card::inner::Core;
 use card::opened::open;
+use card::readable::Readable;
 use device::Device;
 use device::plain::Plain;
 use listing::line::{NO_DAMAGE, NO_ENTRY};

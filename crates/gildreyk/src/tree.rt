@@ -4,6 +4,7 @@ use base::number::{LeafNo, SlotNo};
 use base::owner::{Handle, Kind};
 use card::inner::Status;
 use card::opened::{Opened, open};
+use card::readable::Readable;
 use device::plain::Plain;
 use listing::line::{DamageLine, EntryLine, NO_DAMAGE, NO_ENTRY};
 use std::alloc::Global;

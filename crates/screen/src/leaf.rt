@@ -8,6 +8,7 @@ use crate::image::Image;
 use base::number::LeafNo;
 use base::refusal::Refusal;
 use card::opened::open;
+use card::readable::Readable;
 use device::Device;
 use walk::path::check_path;
 
