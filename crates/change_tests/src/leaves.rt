@@ -2,6 +2,7 @@
 use crate::table::{NEW, after_cut, new_card};
 use base::number::LeafNo;
 use base::owner::{Handle, Kind};
+use card::readable::Readable;
 use card::surveyed::Surveyed;
 use card_tests::image::handle;
 use power::ledger::Ledger;

@@ -4,6 +4,7 @@ use base::number::{BlockNo, LeafNo};
 use base::owner::Kind;
 use base::refusal::Layer;
 use card::opened::open;
+use card::readable::Readable;
 use card_tests::image::{example, handle, put_slot};
 use device::Device;
 use format::format;

@@ -3,6 +3,7 @@ use base::number::{BlockNo, LeafNo};
 use base::owner::{Handle, Kind};
 use base::refusal::{Layer, PathRefusal, Refusal};
 use card::opened::open;
+use card::readable::Readable;
 use card::surveyed::Surveyed;
 use device::Device;
 use format::format;
