@@ -1,5 +1,6 @@
 // The devices over an image, the outermost first, as one device.
-ghost use Rattle.cardscript.specs.Stacks.{stacked};
+ghost use Rattle.std.specs.Prelude.{◌≡◌};
+ghost use Rattle.cardscript.specs.Stacks.{stacked, below_all, Fresh};
 
 use base::number::BlockNo;
 use buffered::buffered::Buffered;
@@ -20,7 +21,10 @@ pub enum Stack<'a> {
 
 impl<'a> Stack<'a> {
     // The devices as they are at power-on.
-    pub fn new(layers: Layers, image: &'a mut [u8]) -> Stack<'a> {
+    pub fn new(layers: Layers, image: &'a mut [u8]) -> Stack<'a>
+        ensures layers { Fresh layers result }
+        ensures image { below_all result ≡ image.old }
+    {
         let plain = Plain::new(image);
         match layers {
             Layers::Plain => Stack::Plain(plain),
@@ -36,7 +40,9 @@ impl<'a> Stack<'a> {
     }
 
     // The image below every layer.
-    pub fn image(&self) -> &[u8] {
+    pub fn image(&self) -> &[u8]
+        ensures { result.now ≡ below_all self.now }
+    {
         match self {
             Stack::Plain(card) => card.image(),
             Stack::Buffered(card) => card.below().image(),
