@@ -25,9 +25,9 @@ const MOST_BLOCKS: usize = 4096;
 enum Sort {
     /// What a card's own calls and cuts left.
     Good,
-    /// The same with some blocks spoilt.
+    /// What they left of a card whose blocks were spoilt between its power-ons, and again after the last.
     Damaged,
-    /// The same with its end cut off, anywhere.
+    /// A good one with its end cut off, anywhere.
     Truncated,
     /// Bytes at random, at times behind a cover and a root that are good.
     Random,
@@ -95,7 +95,11 @@ struct Asker {
 
 impl Asker {
     fn image(&mut self, sort: Sort) -> Vec<u8> {
-        let mut image = if sort == Sort::Random { self.noise() } else { self.card() };
+        let mut image = match sort {
+            Sort::Random => self.noise(),
+            Sort::Damaged => self.card(false),
+            _ => self.card(true),
+        };
         match sort {
             Sort::Damaged => (0..self.random.between(1, 6)).for_each(|_| self.spoil(&mut image)),
             Sort::Truncated => image.truncate(self.random.below(image.len())),
@@ -108,17 +112,21 @@ impl Asker {
         image
     }
 
-    /// What a card's calls and cuts leave.
-    fn card(&mut self) -> Vec<u8> {
+    /// What the scenes of a script leave; at times a file with all of its leaves.
+    fn card(&mut self, honest: bool) -> Vec<u8> {
         let lines = self.random.between(20, 160);
-        let mut maker = Maker::new(self.random.next(), lines, true);
-        maker.make();
+        let mut maker = Maker::new(self.random.next(), lines, honest);
+        if self.random.chance(5) {
+            maker.longest_file();
+        } else {
+            maker.make();
+        }
         maker.session.stack.image.concat()
     }
 
     /// Blocks at random; half of them begin as a block of a card does.
     fn noise(&mut self) -> Vec<u8> {
-        let blocks = self.random.between(0, 24);
+        let blocks = if self.random.chance(5) { 258 } else { self.random.between(0, 24) };
         let mut image: Vec<u8> = (0..blocks * BLOCK).map(|_| self.random.next() as u8).collect();
         for block in image.chunks_exact_mut(BLOCK) {
             if self.random.chance(50) {
@@ -130,7 +138,7 @@ impl Asker {
             }
         }
         if blocks >= 4 && self.random.chance(60) {
-            let slots = self.random.between(2, blocks - 2);
+            let slots = if self.random.chance(25) { blocks - 2 } else { self.random.between(2, blocks - 2) };
             let geometry = Geometry { blocks: blocks as u16, slots: slots as u16 };
             image[..BLOCK].copy_from_slice(&cover(geometry));
             let root = Slot { kind: Kind::Folder, identity: 1, parent: ROOT, numbers: vec![geometry.first_body()] };
@@ -178,7 +186,7 @@ impl Asker {
         while names.len() < 8 && self.random.chance(if names.is_empty() { 97 } else { 55 }) {
             let entries = at.map_or(Vec::new(), |folder| entries_of(image, folder));
             if entries.is_empty() || self.random.chance(12) {
-                names.push(self.random.pick(&[&b"a"[..], b"alto", b"n1", b"\xff", &[b'z'; 24]]).to_vec());
+                names.push(self.random.pick(&[&b"a"[..], b"alto", b"n1", b"long", b"\xff", &[b'z'; 24]]).to_vec());
                 at = None;
             } else {
                 let entry = self.random.pick(&entries);

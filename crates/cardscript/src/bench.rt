@@ -4,7 +4,7 @@
 // format has settled and sent each of its blocks down once, so a failing card has as many writes fewer to pass; one that
 // met power gone leaves devices without power.
 use crate::calls::{obey_opened, obey_surveyed};
-use crate::lives::{cut_at, lives};
+use crate::sessions::{Line, cut_at, sessions};
 use crate::stack::Stack;
 use crate::{answer, image};
 use base::number::BlockNo;
@@ -90,7 +90,7 @@ impl Bench {
     }
 
     // A line while no card is open; an `open` is not among them.
-    fn obey(&mut self, rt: &HostRuntime, line: &Option<Command>) -> anyhow::Result<()> {
+    fn obey(&mut self, rt: &HostRuntime, line: &Line) -> anyhow::Result<()> {
         match line {
             None => answer::bad_command(rt)?,
             Some(Command::Card(count)) => self.new_card(rt, *count)?,
@@ -114,9 +114,9 @@ impl Bench {
         Ok(())
     }
 
-    // Obeys the lines from one power-on to the next: no card is open, then one is, then it is surveyed.
-    fn live(&mut self, rt: &HostRuntime, life: &[Option<Command>]) -> anyhow::Result<()> {
-        let (closed, behind_open) = cut_at(life, Command::Open);
+    // Obeys a session: no card is open at first, then one is, then it is surveyed.
+    fn obey_session(&mut self, rt: &HostRuntime, session: &[Line]) -> anyhow::Result<()> {
+        let (closed, behind_open) = cut_at(session, Command::Open);
         for line in closed {
             self.obey(rt, line)?;
         }
@@ -151,8 +151,8 @@ pub fn run(rt: &HostRuntime) -> anyhow::Result<()> {
         spent: 0,
         gone: false,
     };
-    for life in lives(rt.alloc(), &text)? {
-        bench.live(rt, &life)?;
+    for session in sessions(rt.alloc(), &text)? {
+        bench.obey_session(rt, &session)?;
     }
     Ok(())
 }

@@ -1,4 +1,5 @@
 // The calls to an open card.
+use crate::sessions::Line;
 use crate::stack::Stack;
 use crate::{answer, image};
 use base::number::LeafNo;
@@ -11,11 +12,7 @@ use script::command::Command;
 use std::io;
 
 // A line while a card is only opened; its `end` is not among them.
-pub fn obey_opened(
-    rt: &HostRuntime,
-    card: &mut Opened<Stack>,
-    line: &Option<Command>,
-) -> anyhow::Result<()> {
+pub fn obey_opened(rt: &HostRuntime, card: &mut Opened<Stack>, line: &Line) -> anyhow::Result<()> {
     match line {
         None => answer::bad_command(rt)?,
         Some(Command::Step) => answer::surveying(rt, card.step())?,
@@ -30,7 +27,7 @@ pub fn obey_opened(
 pub fn obey_surveyed(
     rt: &HostRuntime,
     card: &mut Surveyed<Stack>,
-    line: &Option<Command>,
+    line: &Line,
 ) -> anyhow::Result<()> {
     match line {
         None => answer::bad_command(rt)?,

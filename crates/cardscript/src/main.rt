@@ -5,7 +5,7 @@ mod answer;
 mod bench;
 mod calls;
 mod image;
-mod lives;
+mod sessions;
 mod stack;
 
 fn main(rt: HostRuntime) -> anyhow::Result<()> {
