@@ -3,7 +3,7 @@
 
 use crate::device::Stack;
 use crate::format::*;
-use crate::refusal::{PathRefusal, Refusal};
+use crate::refusal::{Layer, PathRefusal, Refusal};
 use crate::rule::Shown;
 
 /// What a surveyed card keeps besides its geometry.
@@ -189,14 +189,16 @@ impl Card {
         Ok(self.shown(stack)?.space())
     }
 
-    pub fn read(&self, stack: &Stack, file: Handle, leaf: u16, room: usize) -> Result<Vec<u8>, Refusal> {
+    /// The leaf's number has its full width: it is compared with the count as it is.
+    pub fn read(&self, stack: &Stack, file: Handle, leaf: u32, room: usize) -> Result<Vec<u8>, Refusal> {
         if room < LEAF_BYTES {
             return Err(Refusal::length(12, room));
         }
         let shown = self.shown(stack)?;
         let slot = self.of_kind(&shown, file, Kind::File)?;
-        let block = *slot.numbers.get(leaf as usize).ok_or(Refusal::file(7, leaf))?;
-        let body = shown.good(file.slot, &slot, leaf).ok_or(Refusal::file(8, block))?;
+        let past = Refusal { number: 7, layer: Layer::File, place: leaf.into() };
+        let block = *slot.numbers.get(leaf as usize).ok_or(past)?;
+        let body = shown.good(file.slot, &slot, leaf as u16).ok_or(Refusal::file(8, block))?;
         Ok(body.bytes)
     }
 
@@ -314,7 +316,7 @@ impl Card {
 
 /// The call for a program in C: a leaf by its path, with no survey. It answers the bytes or a refusal;
 /// the order of the checks is that of one call: name, buffer, card, walk, read.
-pub fn screen(image: &Stack, path: &[u8], leaf: u16, room: usize) -> Result<Vec<u8>, Refusal> {
+pub fn screen(image: &Stack, path: &[u8], leaf: u32, room: usize) -> Result<Vec<u8>, Refusal> {
     for name in components(path) {
         check_name(name)?;
     }

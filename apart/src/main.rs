@@ -7,6 +7,7 @@ mod count;
 mod device;
 mod format;
 mod laws;
+mod leaves;
 mod make;
 mod random;
 mod refusal;
@@ -97,7 +98,8 @@ fn number(word: &str) -> u64 {
 fn usage() -> ! {
     eprintln!(
         "usage: apart run | apart count | apart make SEED COMMANDS | apart laws SEED COMMANDS\n\
-         \x20      apart shrink PROGRAM | apart compare PROGRAM SECONDS SEED | apart store"
+         \x20      apart shrink PROGRAM | apart compare PROGRAM SECONDS SEED | apart store\n\
+         \x20      apart leaves DRIVER FOLDER SECONDS SEED"
     );
     std::process::exit(2)
 }
@@ -113,6 +115,7 @@ fn main() {
         ["laws", seed, commands] => good = laws(number(seed), number(commands) as usize),
         ["shrink", program] => good = shrink(program),
         ["compare", program, seconds, seed] => good = compare::compare(program, number(seconds), number(seed)),
+        ["leaves", driver, folder, seconds, seed] => good = leaves::compare(driver, folder, number(seconds), number(seed)),
         ["store"] => print!("{}", store::stored()),
         _ => usage(),
     }

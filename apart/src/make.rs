@@ -240,7 +240,18 @@ impl Maker {
 
     fn format(&mut self, shape: Shape) {
         while !self.honest && self.random.chance(15) {
-            let (n, s) = *self.random.pick(&[(3, 2), (4, 1), (300, 257), (4097, 3), (0, 0), (65535, 2), (9, 8), (8, 65535)]);
+            let (n, s) = *self.random.pick(&[
+                (3, 2),
+                (4, 1),
+                (300, 257),
+                (300, 256),
+                (4097, 3),
+                (4096, 256),
+                (0, 0),
+                (65535, 2),
+                (9, 8),
+                (8, 65535),
+            ]);
             self.emit(format!("format {n} {s}"));
         }
         self.emit(format!("format {} {}", shape.blocks, shape.slots));
@@ -391,7 +402,7 @@ impl Maker {
     }
 
     /// A file up to its last leaf, and beyond.
-    fn longest_file(&mut self) {
+    pub fn longest_file(&mut self) {
         self.emit("card 75".to_string());
         self.emit("format 75 3".to_string());
         for line in ["open", "end", "create 0 1 6c6f6e67 file"] {

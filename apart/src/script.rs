@@ -260,7 +260,7 @@ impl Session {
     fn screen(&self, path: &[u8], leaf: u16, room: usize) -> String {
         let mut plain = Stack::new(0);
         plain.image = self.stack.image.clone();
-        match card::screen(&plain, path, leaf, room) {
+        match card::screen(&plain, path, leaf.into(), room) {
             Ok(content) => format!("ok {} {}", content.len(), hex(&content)),
             Err(refusal) => format!("ok {} -", 1_000 + refusal.number),
         }
@@ -316,7 +316,7 @@ impl Session {
                 lines(&bad, room, |(slot, leaf)| format!("{slot}:{leaf}"))
             }
             Command::Read(file, leaf, room) => {
-                let content = card.read(stack, file, leaf, room).map_err(refused)?;
+                let content = card.read(stack, file, leaf.into(), room).map_err(refused)?;
                 format!("ok {} {}", content.len(), hex(&content))
             }
             other => unreachable!("{other:?} is no reading call"),
