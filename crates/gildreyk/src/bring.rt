@@ -156,10 +156,10 @@ impl<R: Print> Change for Bring<'_, R> {
         let need = self.need(heap, card)?;
         check_space(card, &need)?;
         self.trim_all(card)?;
-        for (number, item) in (1..).zip(&self.items) {
+        for (before, item) in self.items.iter().enumerate() {
             let shown = Name(item.path().as_bytes());
             bring_item(card, item).context(format_args!("/{shown}"))?;
-            self.tell(number, item)?;
+            self.tell(before.saturating_add(1), item)?;
         }
         Ok(())
     }

@@ -111,9 +111,9 @@ pub fn export<R: Files + Print + AllocGlobal>(rt: &R, given: &Arguments) -> anyh
     let mut image = Image::load(rt, given.word(0)?)?;
     let outgoing = gather(rt.alloc(), &mut image.card(), folder, path)?;
     let all = outgoing.len();
-    for (number, one) in (1..).zip(&outgoing) {
+    for (before, one) in outgoing.iter().enumerate() {
         write(rt, force, one)?;
-        tell(rt, number, all, one)?;
+        tell(rt, before.saturating_add(1), all, one)?;
     }
     Ok(())
 }
