@@ -78,7 +78,10 @@ fn gather<C: Readable>(
 }
 
 fn make_folder<R: Files>(rt: &R, path: &str, force: bool) -> anyhow::Result<()> {
-    if force && fs::exists(rt, path)? {
+    if fs::exists(rt, path)? {
+        if !force {
+            bail!("{path} is there already: --force writes into it");
+        }
         return Ok(());
     }
     fs::create_dir(rt, path).context(format_args!("making the folder {path}"))

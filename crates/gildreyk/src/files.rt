@@ -57,6 +57,9 @@ pub fn replace<R: Files + AllocGlobal>(
     bytes: &[u8],
 ) -> anyhow::Result<()> {
     let beside = format!(in rt.alloc(); "{path}.new")?;
+    if fs::exists(rt, &beside)? {
+        bail!("{beside} is there: another command is writing it, or one was killed");
+    }
     write_new(rt, beside.as_str(), bytes)?;
     let swapped = swap(rt, path, beside.as_str(), old);
     if swapped.is_err() {

@@ -1,11 +1,10 @@
 // Card images: read whole, changed in memory, and put back whole.
 use crate::files;
-use anyhow::Context;
 use card::opened::{Opened, open};
 use device::plain::Plain;
-use std::fs;
 use std::path::AsPath;
 use std::rt::Files;
+use std::{fs, io};
 
 // A card has at most 2 MiB. What an image has behind its card is kept, up to this.
 const LARGEST: u64 = 67108864;
@@ -18,11 +17,19 @@ pub struct Image {
     read: Vec<u8>,
 }
 
+// The path of the file itself, where the path given is a link to it.
+fn place<R: Files + AllocGlobal>(rt: &R, path: &str) -> io::Result<String> {
+    if !fs::symlink_metadata(rt, path)?.is_symlink() {
+        return Ok(String::from_str(rt.alloc(), path)?);
+    }
+    let file = fs::canonicalize(rt, path)?;
+    Ok(String::from_str(rt.alloc(), file.path_text())?)
+}
+
 impl Image {
     pub fn load<R: Files + AllocGlobal>(rt: &R, path: &str) -> anyhow::Result<Image> {
-        let there = fs::canonicalize(rt, path).context(format_args!("reading {path}"))?;
-        let path = String::from_str(rt.alloc(), there.path_text())?;
-        let bytes = files::read_file(rt, path.as_str(), LARGEST)?;
+        let bytes = files::read_file(rt, path, LARGEST)?;
+        let path = place(rt, path)?;
         let read = bytes.clone()?;
         Ok(Image { path, bytes, read })
     }

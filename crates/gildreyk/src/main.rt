@@ -4,10 +4,11 @@
 use crate::arguments::Arguments;
 use crate::image::Image;
 use crate::words::{Word, print_help, print_usage};
-use anyhow::{Context, bail};
-use std::env;
+use anyhow::bail;
+use std::env::Args;
 use std::process::ExitCode;
 use std::rt::Files;
+use std::{env, io};
 
 mod arguments;
 mod below;
@@ -67,34 +68,53 @@ fn perform(rt: &HostRuntime, word: Word, given: &Arguments) -> anyhow::Result<()
     }
 }
 
-// Does what the words of the command line ask for.
-fn run(rt: &HostRuntime) -> anyhow::Result<()> {
+// Takes the words behind the command, and does what they ask for.
+fn obey(rt: &HostRuntime, word: Word, words: Args, given: &mut Arguments) -> anyhow::Result<()> {
+    for text in words {
+        given.take(text)?;
+    }
+    if given.asks_help {
+        return Ok(print_usage(rt, &word.form())?);
+    }
+    given.finish()?;
+    perform(rt, word, given)
+}
+
+// Prints an error, after the command and the image that it is about.
+fn tell(rt: &impl Eprint, word: Word, given: &Arguments, error: &anyhow::Error) -> io::Result<()> {
+    let name = word.form().spelling;
+    match given.optional(0) {
+        Some(image) => eprintln!(rt; "gildreyk {name} {image}: {error:#}"),
+        None => eprintln!(rt; "gildreyk {name}: {error:#}"),
+    }
+}
+
+// Does what the words of the command line ask for. An error of the command is printed, and gives the status 1.
+fn run(rt: &HostRuntime) -> anyhow::Result<ExitCode> {
     let mut words = env::args(rt)?;
     let _program = words.next();
-    let Some(first) = words.next() else {
-        return Ok(print_help(rt)?);
-    };
-    let name = first.as_str();
+    let first = words.next();
+    let name = first.as_ref().map_or("help", |word| word.as_str());
     if matches!(name, "help" | "-h" | "--help") {
-        return Ok(print_help(rt)?);
+        print_help(rt)?;
+        return Ok(ExitCode::SUCCESS);
     }
     let Some(word) = Word::find(name) else {
         bail!("there is no command {name}: try gildreyk help");
     };
     let mut given = Arguments::new(rt.alloc(), word.form());
-    for text in words {
-        given.take(text).context(format_args!("{name}"))?;
+    match obey(rt, word, words, &mut given) {
+        Ok(()) => Ok(ExitCode::SUCCESS),
+        Err(error) => {
+            tell(rt, word, &given, &error)?;
+            Ok(ExitCode::FAILURE)
+        }
     }
-    if given.asks_help {
-        return Ok(print_usage(rt, &word.form())?);
-    }
-    given.finish().context(format_args!("{name}"))?;
-    perform(rt, word, &given).context(format_args!("{name}"))
 }
 
 fn main(rt: HostRuntime) -> ExitCode {
     match run(&rt) {
-        Ok(()) => ExitCode::SUCCESS,
+        Ok(status) => status,
         Err(error) => {
             let _ = eprintln!(rt; "gildreyk: {error:#}");
             ExitCode::FAILURE
