@@ -9,6 +9,7 @@ ghost use Rattle.power.specs.Calls.{pick as pick_of, LandedAll, CutLeft, Fresh, 
 ghost use Rattle.power.specs.Calls.{read_answer, write_answer, write_after, sync_answer, sync_after};
 
 use crate::PowerCut;
+use crate::trouble::Trouble;
 use base::number::BlockNo;
 use device::Device;
 use device::fault::{Fault, Synced, WHOLE};
@@ -285,6 +286,15 @@ impl PowerCut for Ledger {
         self.log.clear();
         self.left = None;
         self.gone = false;
+    }
+
+    fn set_trouble(&mut self, trouble: &Trouble)
+        ensures answer { ledger (view self.new) ≡ ledger (view self.old) }
+        ensures exact { view self.new ≡ with_unsure (with_last (with_left (view self.old) trouble.now.left) trouble.now.last) trouble.now.unsure }
+    {
+        self.set_fuse(trouble.left);
+        self.set_last(trouble.last);
+        self.set_unsure(trouble.unsure);
     }
 }
 

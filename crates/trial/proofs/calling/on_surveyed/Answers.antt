@@ -1,0 +1,6 @@
+use Rattle.std.proofs.Common.{refl}
+use Rattle.trial.proofs.Telling.{call_told}
+use Rattle.trial.proofs.calling.on_surveyed.Goals as goal
+
+pub returns-in-Cut : goal.returns-in-Cut
+returns-in-Cut g c = call_told c.in-Cut.is _ _ refl (c.cut.ensures, refl)

@@ -1,0 +1,4 @@
+pub mod Stands
+pub mod Tells
+pub mod Lawful
+pub mod Record
