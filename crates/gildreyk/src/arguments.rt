@@ -1,5 +1,4 @@
 // The words of a command line: what a command takes, and what it was given.
-use crate::text::Name;
 use anyhow::{anyhow, bail};
 use std::alloc::{AllocError, Global};
 

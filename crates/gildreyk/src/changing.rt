@@ -1,11 +1,9 @@
 // Changes of a card: made in memory, looked at again, and then put into the image's place.
 use crate::image::Image;
 use anyhow::Context;
-use card::opened::open;
 use card::readable::Readable;
 use card::surveyed::Surveyed;
 use device::Device;
-use device::plain::Plain;
 use std::alloc::Global;
 use std::rt::Files;
 

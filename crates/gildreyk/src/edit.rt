@@ -6,7 +6,7 @@ use crate::files::{self, read_file};
 use crate::local::gather;
 use crate::reading::LARGEST_PART;
 use crate::remove::Remove;
-use anyhow::{Context, bail};
+use anyhow::Context;
 use device::plain::Plain;
 use format::format;
 use std::alloc::Global;

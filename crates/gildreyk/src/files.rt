@@ -1,7 +1,7 @@
 // Files that appear whole or not at all.
 use anyhow::{Context, bail};
 use std::alloc::Global;
-use std::fs::{File, OpenFile, Permissions};
+use std::fs::{File, OpenFile};
 use std::io::Write;
 use std::rt::Files;
 use std::{fs, io};
@@ -42,7 +42,10 @@ fn swap<R: Files + AllocGlobal>(
     if let Some(bytes) = old {
         holds(rt, path, bytes)?;
     }
-    let permissions: Permissions = fs::metadata(rt, path)?.permissions();
+    let permissions = fs::metadata(rt, path)?.permissions();
+    if permissions.readonly() {
+        bail!("{path} is write-protected");
+    }
     fs::set_permissions(rt, beside, permissions)?;
     fs::rename(rt, beside, path).context(format_args!("renaming {beside} to {path}"))
 }

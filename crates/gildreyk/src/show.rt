@@ -4,7 +4,7 @@ use crate::below::{Item, all, below};
 use crate::files;
 use crate::image::Image;
 use crate::need::damage as damaged_leaves;
-use crate::reading::{Found, file, leaf, node, whole};
+use crate::reading::{file, leaf, node, whole};
 use crate::text::Name;
 use anyhow::{Context, anyhow, bail};
 use base::number::{LeafNo, SlotNo};
