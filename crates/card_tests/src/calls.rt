@@ -41,15 +41,12 @@ pub fn refusals(image: &mut [u8], name: &[u8], path: &[u8], h: &Handle) -> Numbe
 
 // How many reads were counted; counts anew.
 fn taken(card: &mut Core<Counting<Plain>>) -> u32 {
-    mem::replace(&mut card.device.reads, 0)
+    mem::take(&mut card.device.tally).reads
 }
 
 // How many blocks open, find, path, list, status, damage and read have read.
 pub fn reads(image: &mut [u8], name: &[u8], path: &[u8], h: &Handle, leaf: u16) -> [u32; 7] {
-    let mut card = Core::open(Counting {
-        below: Plain::new(image),
-        reads: 0,
-    });
+    let mut card = Core::open(Counting::new(Plain::new(image)));
     let mut entries = [NO_ENTRY; 4];
     let mut damage = [NO_DAMAGE; 4];
     let mut buffer = [0u8; 496];
