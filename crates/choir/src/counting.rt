@@ -1,4 +1,7 @@
 // What a stand sees of the parts, counted.
+ghost use Rattle.std.specs.Prelude.{◌≡◌, ◌↔◌, Some, IsTrue};
+ghost use Rattle.choir.specs.Classes.{leaf_of, Class, ReadShows, refused_class, Shows, more, noted};
+
 use crate::calls::looks;
 use crate::parts::{Choir, Part};
 use base::refusal::Refusal;
@@ -6,7 +9,7 @@ use std::alloc::{AllocError, Global};
 use trial::answer::Answer;
 
 // What one leaf shows.
-#[derive(Clone, Copy, PartialEq, Eq, Debug)]
+#[derive(Clone, Copy)]
 pub enum Shown {
     Old,
     New,
@@ -18,7 +21,7 @@ pub enum Shown {
 }
 
 // How many leaves show what.
-#[derive(Clone, Copy, Default, PartialEq, Eq, Debug)]
+#[derive(Clone, Copy, Default)]
 pub struct Tally {
     pub old: u32,
     pub new: u32,
@@ -27,16 +30,25 @@ pub struct Tally {
     pub other: u32,
 }
 
+// One more, as far as 32 bits go.
+fn more(n: u32) -> u32
+    ensures { result ≡ more n }
+{
+    n.saturating_add(1)
+}
+
 impl Tally {
-    pub fn note(&mut self, shown: Shown) {
-        let count = match shown {
-            Shown::Old => &mut self.old,
-            Shown::New => &mut self.new,
-            Shown::Refused => &mut self.refused,
-            Shown::Absent => &mut self.absent,
-            Shown::Other => &mut self.other,
-        };
-        *count = count.saturating_add(1);
+    // Counts a leaf in its class.
+    pub fn note(&mut self, shown: Shown)
+        ensures { self.exit.now ≡ noted shown self.entry.now }
+    {
+        match shown {
+            Shown::Old => self.old = more(self.old),
+            Shown::New => self.new = more(self.new),
+            Shown::Refused => self.refused = more(self.refused),
+            Shown::Absent => self.absent = more(self.absent),
+            Shown::Other => self.other = more(self.other),
+        }
     }
 
     pub fn add(&mut self, more: &Tally) {
@@ -60,26 +72,63 @@ impl Tally {
     }
 }
 
-// What the bytes of a leaf are: those of the old edition, those of the new one, or neither.
-fn edition_of(bytes: &[u8], old: Option<&Vec<u8>>, new: Option<&Vec<u8>>) -> Shown {
-    if old.is_some_and(|leaf| leaf.as_slice() == bytes) {
+// Whether both are the same bytes.
+fn same(a: &[u8], b: &[u8]) -> bool
+    ensures { IsTrue result ↔ (a.now ≡ b.now) }
+{
+    a == b
+}
+
+// Whether an edition has a leaf k of these bytes.
+fn is_leaf(leaves: &[Vec<u8>], k: usize, bytes: &[u8]) -> bool
+    ensures { IsTrue result ↔ (leaf_of leaves.now k ≡ Some bytes.now) }
+{
+    k < leaves.len() && same(&leaves[k], bytes)
+}
+
+// The class of bytes that were read of leaf k.
+fn class(part: &Part, k: usize, bytes: &[u8]) -> Shown
+    ensures { Class part.now k bytes.now result }
+{
+    if is_leaf(&part.old, k, bytes) {
         Shown::Old
-    } else if new.is_some_and(|leaf| leaf.as_slice() == bytes) {
+    } else if is_leaf(&part.new, k, bytes) {
         Shown::New
     } else {
         Shown::Other
     }
 }
 
-// What leaf k of a part shows, whose file has `count` leaves by its status.
-fn leaf_shows(part: &Part, k: usize, count: usize, answer: &Answer) -> Shown {
+// What the first bytes of a buffer show of leaf k, of a file that has `count` leaves by its status.
+fn read_shows(part: &Part, k: usize, count: usize, used: usize, buffer: &[u8]) -> Shown
+    ensures { ReadShows part.now k count used buffer.now result }
+{
+    if k >= count || used > buffer.len() {
+        return Shown::Other;
+    }
+    class(part, k, &buffer[..used])
+}
+
+// The class of a refused read, of a leaf that the file has or has not.
+fn refused(is_there: bool, refusal: &Refusal) -> Shown
+    ensures { result ≡ refused_class is_there refusal.now }
+{
+    if is_there {
+        return Shown::Refused;
+    }
+    match refusal {
+        Refusal::NoSuchLeaf(_) => Shown::Absent,
+        _ => Shown::Other,
+    }
+}
+
+// What leaf k of a part shows by the answer to a read of it.
+fn leaf_shows(part: &Part, k: usize, count: usize, answer: &Answer) -> Shown
+    ensures { Shows part.now k count answer.now result }
+{
     match answer {
-        Answer::Leaf(Ok(used), buffer) if k < count => match buffer.get(..*used) {
-            Some(bytes) => edition_of(bytes, part.old.get(k), part.new.get(k)),
-            None => Shown::Other,
-        },
-        Answer::Leaf(Err(Refusal::NoSuchLeaf(_)), _) if k >= count => Shown::Absent,
-        Answer::Leaf(Err(_), _) if k < count => Shown::Refused,
+        Answer::Leaf(Ok(used), buffer) => read_shows(part, k, count, *used, buffer),
+        Answer::Leaf(Err(refusal), _) => refused(k < count, refusal),
         _ => Shown::Other,
     }
 }
@@ -124,4 +173,9 @@ pub fn see(heap: Global, choir: &Choir, answers: &[Answer]) -> Result<Vec<Tally>
     }
     seen.reverse();
     Ok(seen)
+}
+
+// Whether some changing call found the power gone.
+pub fn met_power_gone(answers: &[Answer]) -> bool {
+    answers.iter().any(|answer| matches!(answer, Answer::Changed(Err(Refusal::PowerGone(_)))))
 }

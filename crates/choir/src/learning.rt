@@ -1,30 +1,16 @@
 // What is learnt by making calls on a new card: where its files are, and which blocks a save writes.
 use crate::calls::{create, old_edition, open, opened, save};
+use crate::lives::{device, live};
 use crate::parts::{Choir, Piece, make_part};
-use crate::pulling::{Pull, waiting_trouble};
+use crate::pulling::Pull;
 use anyhow::anyhow;
 use base::number::BlockNo;
 use base::owner::{Handle, Kind};
-use power::ledger::{LastWrite, Ledger};
+use power::ledger::LastWrite;
 use std::alloc::Global;
 use trial::answer::Answer;
 use trial::call::Call;
-use trial::run::{Life, Stopped, run};
-use trial::stand::Stand;
 use walk::path::ROOT;
-
-// More than the writes of any list of calls here.
-const LOG: usize = 512;
-
-// Makes the calls on a new card.
-pub fn live(heap: Global, piece: &Piece, calls: &[Call]) -> anyhow::Result<Life<Ledger>> {
-    let ledger = Ledger::new(heap, piece.blocks, LOG)?;
-    match run(heap, ledger, piece.blocks, piece.slots, calls) {
-        Ok(life) => Ok(life),
-        Err(Stopped::Format(refusal)) => Err(anyhow!("the format was refused: {refusal}")),
-        Err(Stopped::Memory(error)) => Err(error.into()),
-    }
-}
 
 fn handle_of(answer: Option<&Answer>) -> anyhow::Result<Handle> {
     match answer {
@@ -52,14 +38,6 @@ pub fn meet(heap: Global, piece: &Piece) -> anyhow::Result<Choir> {
     })
 }
 
-fn device(stand: &Stand<Ledger>) -> &Ledger {
-    match stand {
-        Stand::Closed(device) => device,
-        Stand::Opened(card) => card.device(),
-        Stand::Surveyed(card) => card.device(),
-    }
-}
-
 // What each block shows once the save has written so many blocks.
 fn shown_after(heap: Global, choir: &Choir, accepted: u32) -> anyhow::Result<Vec<[u8; 512]>> {
     let pull = Pull {
@@ -68,7 +46,7 @@ fn shown_after(heap: Global, choir: &Choir, accepted: u32) -> anyhow::Result<Vec
     };
     let mut calls = old_edition(heap, choir)?;
     calls.push(Call::Cut(&[]))?;
-    calls.push(Call::Trouble(waiting_trouble(&pull)))?;
+    calls.push(Call::Trouble(pull.trouble()))?;
     open(&mut calls)?;
     save(&mut calls, choir)?;
     let life = live(heap, &choir.piece, &calls)?;

@@ -5,7 +5,10 @@
 mod calls;
 mod counting;
 mod learning;
-pub mod parts;
+mod lives;
+mod parts;
 mod pulling;
 pub mod showing;
+mod sums;
 mod telling;
+mod trying;

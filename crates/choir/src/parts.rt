@@ -2,7 +2,7 @@
 use base::owner::Handle;
 use std::alloc::{AllocError, Global};
 
-#[derive(Clone, Copy, PartialEq, Eq, Debug)]
+#[derive(Clone, Copy, PartialEq, Eq)]
 pub enum Voice {
     Soprano,
     Alto,
@@ -21,7 +21,7 @@ impl Voice {
     }
 }
 
-#[derive(Clone, Copy, PartialEq, Eq, Debug)]
+#[derive(Clone, Copy)]
 pub enum Edition {
     Old,
     New,
@@ -59,11 +59,11 @@ pub const KYRIE: Piece = Piece {
 
 pub const GLORIA: Piece = Piece {
     title: "Gloria",
-    blocks: 96,
+    blocks: 80,
     slots: 12,
     leaves: [
         (Voice::Soprano, 6),
-        (Voice::Alto, 30),
+        (Voice::Alto, 20),
         (Voice::Tenor, 5),
         (Voice::Bass, 4),
     ],

@@ -15,17 +15,34 @@ pub struct Pull {
     pub last: LastWrite,
 }
 
-pub fn waiting_trouble(pull: &Pull) -> Trouble {
-    Trouble {
-        left: Some(pull.accepted),
-        last: pull.last,
-        unsure: false,
+impl Pull {
+    pub fn trouble(&self) -> Trouble {
+        Trouble {
+            left: Some(self.accepted),
+            last: self.last,
+            unsure: false,
+        }
+    }
+
+    // How many blocks wait then, each of them with its old content and a new one.
+    pub fn waiting(&self) -> u32 {
+        match self.last {
+            LastWrite::Lost => self.accepted,
+            LastWrite::MayStand => self.accepted.saturating_add(1),
+        }
     }
 }
 
 // Of the blocks that wait, in the order of their writes, the i-th lands if bit i is set.
-#[derive(Clone, Copy, PartialEq, Eq, PartialOrd, Ord, Debug)]
+#[derive(Clone, Copy, PartialEq, Eq, PartialOrd, Ord)]
 pub struct Mixture(pub u64);
+
+// A pull of the plug, and what landed then.
+#[derive(Clone, Copy)]
+pub struct Landed {
+    pub pull: Pull,
+    pub mixture: Mixture,
+}
 
 // So many ones, from bit 0 on.
 fn ones(n: u32) -> u64 {
@@ -50,15 +67,18 @@ fn drawn(seed: u64) -> u64 {
     x ^ x.wrapping_shr(31)
 }
 
-// How many mixtures are drawn where not all of them are tried.
-const DRAWN: u64 = 16;
+// Of so many waiting blocks every mixture is tried.
+pub const FEW: u32 = 8;
 
-// All mixtures of up to 8 waiting blocks. Of more: the first ones land, a single one lands, all but one land, and some
+// How many mixtures are drawn where not all of them are tried.
+pub const DRAWN: u64 = 24;
+
+// All mixtures of few waiting blocks. Of more: the first ones land, a single one lands, all but one land, and some
 // that are drawn.
 pub fn mixtures(heap: Global, waiting: u32) -> Result<BTreeSet<Mixture>, AllocError> {
     let mut some = BTreeSet::new(heap);
     let all = ones(waiting);
-    if waiting <= 8 {
+    if waiting <= FEW {
         for mixture in 0..=all {
             some.insert(Mixture(mixture))?;
         }
@@ -105,7 +125,7 @@ pub fn pulled<'a>(
 ) -> Result<Vec<Call<'a>>, AllocError> {
     let mut calls = old_edition(heap, choir)?;
     calls.push(Call::Cut(&[]))?;
-    calls.push(Call::Trouble(waiting_trouble(pull)))?;
+    calls.push(Call::Trouble(pull.trouble()))?;
     open(&mut calls)?;
     save(&mut calls, choir)?;
     calls.push(Call::Cut(landing))?;

@@ -1,7 +1,8 @@
 // What the demonstration prints.
 use crate::counting::Tally;
 use crate::parts::Choir;
-use crate::showing::{Sums, Worst};
+use crate::pulling::{DRAWN, FEW};
+use crate::sums::{Sums, Worst};
 use base::number::BlockNo;
 use power::ledger::LastWrite;
 use std::io;
@@ -49,19 +50,33 @@ fn tell_row(rt: &impl Print, name: &str, tally: &Tally) -> io::Result<()> {
     println!(rt; "  {name:<8} {old:>8} {new:>8} {refused:>8} {other:>14}")
 }
 
-// How often what was tried, and what every leaf showed.
-pub fn tell_table(rt: &impl Print, choir: &Choir, sums: &Sums) -> io::Result<()> {
+// Where the plug was pulled, and how often.
+pub fn tell_tries(rt: &impl Print, sums: &Sums, written: &[BlockNo]) -> io::Result<()> {
+    let many = written.len();
     let pulls = sums.pulls;
     let landings = sums.landings;
-    let calls = sums.calls;
-    let mut leaves = 0u32;
-    for tally in &sums.parts {
-        leaves = leaves.saturating_add(tally.opened());
-    }
     println!(rt;
-        "The plug is pulled at every point of the save: {pulls} pulls, {landings} landings in all."
+        "The plug is pulled {pulls} times: at each of the {many} writes twice (what it carries is lost, or may stand),"
     )?;
-    println!(rt; "{calls} calls were made and {leaves} leaves opened. What they showed:")?;
+    println!(rt;
+        "and after the last. Then what waits lands in some mixture of old and new: in every one if at most"
+    )?;
+    println!(rt;
+        "{FEW} blocks wait; else the first ones land, one alone, all but one, and {DRAWN} mixtures are drawn by a rule."
+    )?;
+    println!(rt;
+        "After each of the {landings} landings a stand opens the card and every leaf of every part."
+    )
+}
+
+// What every leaf showed.
+pub fn tell_table(rt: &impl Print, choir: &Choir, sums: &Sums) -> io::Result<()> {
+    let calls = sums.calls;
+    let leaves = sums
+        .parts
+        .iter()
+        .fold(0, |sum: u32, tally| sum.saturating_add(tally.opened()));
+    println!(rt; "Calls and cuts made: {calls}. Leaves opened: {leaves}. They showed:")?;
     println!(rt; "  part          old      new  refused  anything else")?;
     for (part, tally) in choir.parts.iter().zip(&sums.parts) {
         tell_row(rt, part.voice.name(), tally)?;
@@ -78,7 +93,7 @@ pub fn tell_alto(rt: &impl Print, sums: &Sums) -> io::Result<()> {
 }
 
 // The worst of the landings.
-pub fn tell_landing(rt: &impl Print, worst: &Worst, written: &[BlockNo]) -> io::Result<()> {
+pub fn tell_worst(rt: &impl Print, worst: &Worst, written: &[BlockNo]) -> io::Result<()> {
     let accepted = worst.landed.pull.accepted;
     let what = match worst.landed.pull.last {
         LastWrite::Lost => "is lost",
@@ -89,9 +104,10 @@ pub fn tell_landing(rt: &impl Print, worst: &Worst, written: &[BlockNo]) -> io::
     let refused = worst.alto.refused;
     let many = written.len();
     println!(rt;
-        "One of the worst: {accepted} of {many} writes accepted, the next {what}; then alto has {old} old leaves, {new} new, {refused} refused."
+        "One of the worst: {accepted} of the {many} writes are accepted, the next {what}. Alto then shows"
     )?;
     println!(rt;
-        "There its leaves are cut off and the new edition is saved again and synced, the plug is pulled, and every leaf is read."
-    )
+        "{old} old leaves and {new} new, and {refused} is refused. There the part is shortened to no leaf, the new edition"
+    )?;
+    println!(rt; "is written again and synced, the plug is pulled, and every leaf is read.")
 }
