@@ -65,6 +65,7 @@ fn perform(rt: &HostRuntime, word: Word, given: &Arguments) -> anyhow::Result<()
         Word::Tree => print_tree(rt, given),
         Word::Blocks => print_blocks(rt, given),
         Word::All => print_all(rt, given),
+        Word::Demo => choir::showing::demonstrate(rt),
     }
 }
 

@@ -21,6 +21,7 @@ pub enum Word {
     Export,
     Blocks,
     All,
+    Demo,
 }
 
 const NEW: Form = Form {
@@ -191,8 +192,19 @@ const ALL: Form = Form {
 Prints what blocks and tree print.",
 };
 
+const DEMO: Form = Form {
+    spelling: "demo",
+    words: &[],
+    options: &[],
+    help: "demo
+
+Shows what a card gives after its plug was pulled: a choir's parts go onto a card in memory, a new edition of one part
+is saved while the plug is pulled at every point of the save, and after each pull every leaf of every part is opened
+and compared. No file is read or written.",
+};
+
 impl Word {
-    const ALL: [Word; 17] = [
+    const ALL: [Word; 18] = [
         Word::New,
         Word::Put,
         Word::Get,
@@ -210,6 +222,7 @@ impl Word {
         Word::Export,
         Word::Blocks,
         Word::All,
+        Word::Demo,
     ];
 
     pub fn form(self) -> Form {
@@ -231,6 +244,7 @@ impl Word {
             Word::Export => EXPORT,
             Word::Blocks => BLOCKS,
             Word::All => ALL,
+            Word::Demo => DEMO,
         }
     }
 
@@ -262,6 +276,7 @@ const HELP: &str = "gildreyk: makes, fills, reads and looks into cards
   gildreyk tree IMAGE              every folder and file below the root, with its leaves, and what is damaged
   gildreyk blocks IMAGE            a line for each block: what it holds, whose it is, which leaf, how long
   gildreyk all IMAGE               blocks and tree
+  gildreyk demo                    what a card shows after its plug was pulled
   gildreyk COMMAND --help          more on a command, and its options
   gildreyk help                    this text
 
