@@ -1,5 +1,5 @@
 -- The leaves of an edition, by their place in its list.
-use Rattle.std.proofs.Common.{◌≡◌, ℕ, ◌<◌, ◌≤◌, ◌↔◌, List, Option, Some, None, Bool, IsTrue, length, get_or, sym, ap, ◌∙◌, Vec, vec_items}
+use Rattle.std.proofs.Common.{◌≡◌, ℕ, ◌<◌, ◌≤◌, ◌↔◌, List, Some, Bool, IsTrue, length, get_or, sym, ap, ◌∙◌, Vec, vec_items}
 use Rattle.std.proofs.lemmas.Option.{slice_get-get_or, slice_get_past, none-some, same_Some}
 use Rattle.std.specs.Option.{option_map}
 use Rattle.std.specs.declared.alloc.Global.{Global}
