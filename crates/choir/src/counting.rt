@@ -133,11 +133,16 @@ fn leaf_shows(part: &Part, k: usize, count: usize, answer: &Answer) -> Shown
     }
 }
 
-// How many leaves the status tells, where the path led to the part's file. None: it did not.
+// Whether an edition of the part has so many leaves.
+fn is_length(part: &Part, count: usize) -> bool {
+    count == part.old.len() || (!part.new.is_empty() && count == part.new.len())
+}
+
+// How many leaves the status tells. None: the path did not lead to the part's file, or no edition has so many.
 fn count_of(part: &Part, path: &Answer, status: &Answer) -> Option<usize> {
     match (path, status) {
         (Answer::Path(Ok(handle)), Answer::Status(Ok(status))) if *handle == part.file => {
-            Some(status.count as usize)
+            Some(status.count as usize).filter(|count| is_length(part, *count))
         }
         _ => None,
     }
