@@ -19,6 +19,6 @@ mod power_gone;
 #[cfg(test)]
 mod refusals;
 #[cfg(test)]
-mod survey;
+mod surveying;
 #[cfg(test)]
 mod table;

@@ -64,14 +64,21 @@ impl<R: Print> Tree<'_, '_, R> {
         Ok(())
     }
 
-    // The leaves of a folder that are not good: their entries are not seen.
-    fn print_bad_leaves(&self, folder: &Handle, depth: u16) -> io::Result<()> {
-        for line in &self.damage {
-            if line.slot == folder.slot {
-                let leaf = line.leaf;
-                self.indent(depth)?;
-                println!(self.rt; "leaf {leaf}: not good")?;
-            }
+    // The leaves of a folder: of one that is not good the entries are not seen.
+    fn print_folder_leaves(&self, folder: &Handle, count: u16, depth: u16) -> io::Result<()> {
+        for k in 0..count {
+            let leaf = LeafNo(k);
+            let line = DamageLine {
+                slot: folder.slot,
+                leaf,
+            };
+            let state = if self.damage.contains(&line) {
+                "not good"
+            } else {
+                "good"
+            };
+            self.indent(depth)?;
+            println!(self.rt; "leaf {leaf}: {state}")?;
         }
         Ok(())
     }
@@ -117,7 +124,7 @@ impl<R: Print> Tree<'_, '_, R> {
             self.indent(below)?;
             return Ok(println!(self.rt; "(as above)")?);
         }
-        self.print_bad_leaves(&handle, below)?;
+        self.print_folder_leaves(&handle, status.count, below)?;
         self.push_entries(&handle, below)
     }
 
