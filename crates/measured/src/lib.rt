@@ -1,0 +1,4 @@
+// The cards that the programs on costs and times measure.
+#![tactic(auto)]
+
+pub mod cards;
