@@ -126,7 +126,8 @@ static ext2_filsys make_system(void) {
     ext2fs_set_feature_filetype(&param);
     need(ext2fs_initialize("memory", EXT2_FLAG_RW, &param, &memory, &fs), "initialize");
     need(ext2fs_allocate_tables(fs), "allocate tables");
-    memset(image + BLOCK * ext2fs_inode_table_loc(fs, 0), 0, BLOCK * fs->inode_blocks_per_group);
+    blk64_t table = ext2fs_inode_table_loc(fs, 0);
+    need(ext2fs_zero_blocks2(fs, table, fs->inode_blocks_per_group, NULL, NULL), "clear the inodes");
     for (ext2_ino_t ino = 1; ino < EXT2_FIRST_INO(fs->super); ino++)
         if (ino != EXT2_ROOT_INO)
             ext2fs_inode_alloc_stats2(fs, ino, 1, 0);

@@ -1,4 +1,4 @@
-// What the calls are held against: plain copies of blocks, and a plain pass that copies each block and sums it.
+// What the calls are held against: plain copies of blocks, and plain passes that copy and sum them.
 use crate::clock::since;
 use std::rt::Clock;
 use std::time::Instant;
@@ -8,7 +8,7 @@ fn copy(from: &[u8], to: &mut [u8], blocks: usize) {
     let (sources, _) = from.as_chunks::<512>();
     let (targets, _) = to.as_chunks_mut::<512>();
     for (target, source) in targets.iter_mut().zip(sources).take(blocks) {
-        *target = *source;
+        target.copy_from_slice(source);
     }
 }
 
@@ -31,15 +31,15 @@ pub fn copies<R: Clock>(
     since(rt, &start)
 }
 
-fn sum_bytes(block: [u8; 512]) -> u64 {
+fn sum_bytes(block: &[u8; 512]) -> u64 {
     let mut sum = 0u64;
     for byte in block {
-        sum = sum.wrapping_add(byte as u64);
+        sum = sum.wrapping_add(*byte as u64);
     }
     sum
 }
 
-fn sum_words(block: [u8; 512]) -> u64 {
+fn sum_words(block: &[u8; 512]) -> u64 {
     let (words, _) = block.as_chunks::<8>();
     let mut sum = 0u64;
     for word in words {
@@ -48,24 +48,52 @@ fn sum_words(block: [u8; 512]) -> u64 {
     sum
 }
 
-// What a plain pass sums.
+// A plain pass over the blocks that the survey reads.
 #[derive(Clone, Copy)]
-pub enum Sum {
+pub enum Pass {
+    // Copies each block to another image, and sums its bytes there.
     Bytes,
-    // Of 64 bits.
+    // The same, and sums words of 64 bits.
     Words,
+    // Copies each block to one and the same place, and sums its words there.
+    Place,
 }
 
-// The sum over all blocks but the first, each block copied before.
-pub fn pass(image: &[u8], summed: Sum) -> u64 {
-    let (blocks, _) = image.as_chunks::<512>();
+fn copy_and_sum(from: &[u8], to: &mut [u8], by_words: bool) -> u64 {
+    let (sources, _) = from.as_chunks::<512>();
+    let (targets, _) = to.as_chunks_mut::<512>();
     let mut sum = 0u64;
-    for block in blocks.iter().skip(1) {
-        let part = match summed {
-            Sum::Bytes => sum_bytes(*block),
-            Sum::Words => sum_words(*block),
+    for (target, source) in targets.iter_mut().zip(sources).skip(1) {
+        target.copy_from_slice(source);
+        let part = if by_words {
+            sum_words(target)
+        } else {
+            sum_bytes(target)
         };
         sum = sum.wrapping_add(part);
     }
     sum
+}
+
+fn copy_to_place(from: &[u8], to: &mut [u8]) -> u64 {
+    let (sources, _) = from.as_chunks::<512>();
+    let (targets, _) = to.as_chunks_mut::<512>();
+    let Some(target) = targets.first_mut() else {
+        return 0;
+    };
+    let mut sum = 0u64;
+    for source in sources.iter().skip(1) {
+        target.copy_from_slice(source);
+        sum = sum.wrapping_add(sum_words(target));
+    }
+    sum
+}
+
+// The sum over all blocks but the first.
+pub fn sum(from: &[u8], to: &mut [u8], pass: Pass) -> u64 {
+    match pass {
+        Pass::Bytes => copy_and_sum(from, to, false),
+        Pass::Words => copy_and_sum(from, to, true),
+        Pass::Place => copy_to_place(from, to),
+    }
 }

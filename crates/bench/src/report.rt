@@ -33,7 +33,7 @@ fn tenths(a: u64, b: u64) -> u64 {
 }
 
 // A quotient, in hundredths.
-pub fn hundredths(a: u64, b: u64) -> u64 {
+fn hundredths(a: u64, b: u64) -> u64 {
     a.saturating_mul(100).checked_div(b).unwrap_or(0)
 }
 
@@ -73,16 +73,18 @@ pub fn print_row<R: Print>(rt: &R, report: Report, row: &Row) -> anyhow::Result<
     }
 }
 
-// A plain pass over a card, and the share of its speed that the survey has.
+// A plain pass over a card, and the shares of its speed that the survey has, by the least times and by the medians.
 pub fn print_pass<R: Print>(
     rt: &R,
     name: &str,
     blocks: u16,
     passes: &Rounds,
-    share: u64,
+    survey: &Rounds,
 ) -> anyhow::Result<()> {
     let (least, median) = (passes.least(), passes.median());
+    let near = hundredths(least, survey.least());
+    let far = hundredths(median, survey.median());
     Ok(println!(rt;
-        "    {name:<32} {blocks:>6}.0 {least:>10} {median:>10}   the survey: {share} % of its speed"
+        "    {name:<32} {blocks:>6}.0 {least:>10} {median:>10}  the survey has {near} %, {far} % of its speed"
     )?)
 }

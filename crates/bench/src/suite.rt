@@ -1,8 +1,8 @@
 // All that is timed, in order.
 use crate::action::{Action, FILES};
 use crate::clock::{Rounds, since};
-use crate::plain::{Sum, copies, pass};
-use crate::report::{Report, Row, hundredths, print_head, print_pass, print_row};
+use crate::plain::{Pass, copies, sum};
+use crate::report::{Report, Row, print_head, print_pass, print_row};
 use anyhow::ensure;
 use card::opened::open;
 use card_tests::counting::{Counting, Tally};
@@ -113,18 +113,19 @@ fn survey_round<R: Clock>(rt: &R, image: &mut [u8], bodies: u16) -> anyhow::Resu
     Ok(nanos)
 }
 
-fn sum_rounds<R: Clock + AllocGlobal>(
+fn pass_rounds<R: Clock + AllocGlobal>(
     rt: &R,
     report: Report,
     image: &[u8],
-    summed: Sum,
+    pass: Pass,
 ) -> anyhow::Result<Rounds> {
+    let mut to = Vec::from_slice(rt.alloc(), image)?;
     let mut nanos = Vec::new(rt.alloc());
     for _ in 0..report.rounds() {
         let start = Instant::now(rt)?;
-        let sum = pass(image, summed);
+        let summed = sum(image, to.as_mut_slice(), pass);
         nanos.push(since(rt, &start)?)?;
-        ensure!(sum != 0, "the image sums to 0");
+        ensure!(summed != 0, "the image sums to 0");
     }
     Rounds::new(nanos)
 }
@@ -135,12 +136,11 @@ fn print_share<R: Clock + Print + AllocGlobal>(
     report: Report,
     image: &[u8],
     survey: &Rounds,
-    (name, summed): (&str, Sum),
+    (name, pass): (&str, Pass),
 ) -> anyhow::Result<()> {
-    let sums = sum_rounds(rt, report, image, summed)?;
+    let passes = pass_rounds(rt, report, image, pass)?;
     if let Report::Times(_) = report {
-        let share = hundredths(sums.median(), survey.median());
-        print_pass(rt, name, BLOCKS - 1, &sums, share)?;
+        print_pass(rt, name, BLOCKS - 1, &passes, survey)?;
     }
     Ok(())
 }
@@ -165,70 +165,62 @@ fn time_survey<R: Clock + Print + AllocGlobal>(
         copies: plain_rounds(rt, report, image, 1, BLOCKS as u64)?,
     };
     print_row(rt, report, &row)?;
-    print_share(
-        rt,
-        report,
-        image,
-        &row.times,
-        ("a pass that sums bytes", Sum::Bytes),
-    )?;
-    print_share(
-        rt,
-        report,
-        image,
-        &row.times,
-        ("a pass that sums words", Sum::Words),
-    )
+    for pass in [
+        ("copies, sums bytes", Pass::Bytes),
+        ("copies, sums words of 64 bits", Pass::Words),
+        ("copies to one place, sums words", Pass::Place),
+    ] {
+        print_share(rt, report, image, &row.times, pass)?;
+    }
+    Ok(())
 }
 
-// Files that are made, written, read and removed, and the survey of their card.
+// The survey of the smallest card: what a survey takes whatever the card has.
+fn time_smallest<R: Clock + Print + AllocGlobal>(rt: &R, report: Report) -> anyhow::Result<()> {
+    let mut image = [0; 2048];
+    format(&mut Plain::new(&mut image), 4, 2)?;
+    let mut nanos = Vec::new(rt.alloc());
+    for _ in 0..report.rounds() {
+        nanos.push(survey_round(rt, &mut image, 1)?)?;
+    }
+    let row = Row {
+        name: "open and survey, 4 blocks",
+        calls: 1,
+        blocks: 5,
+        times: Rounds::new(nanos)?,
+        copies: plain_rounds(rt, report, &image, 1, 4)?,
+    };
+    print_row(rt, report, &row)
+}
+
+// Files that are made and removed, and the survey of their card.
 fn time_files<R: Clock + Print + AllocGlobal>(rt: &R, report: Report) -> anyhow::Result<()> {
     let empty = new_card(rt.alloc())?;
+    let filled = files(rt.alloc(), FILES, LEAVES)?;
+    let made = "create, 64 in a new root";
+    time_action(rt, report, made, empty.as_slice(), Action::Create)?;
+    let gone = "remove, each of 64 files of 15";
+    time_action(rt, report, gone, filled.as_slice(), Action::Remove)?;
+    let surveyed = "open and survey, 64 files of 15";
+    time_survey(rt, report, surveyed, filled.as_slice(), 2874)
+}
+
+// The leaves of these files.
+fn time_leaves<R: Clock + Print + AllocGlobal>(rt: &R, report: Report) -> anyhow::Result<()> {
     let named = files(rt.alloc(), FILES, 0)?;
     let filled = files(rt.alloc(), FILES, LEAVES)?;
     let write = Action::Write(FILES, LEAVES);
-    let read = Action::Read(FILES, LEAVES);
+    let appended = "append, 15 to each of 64 files";
+    time_action(rt, report, appended, named.as_slice(), write)?;
+    let written = "overwrite, 15 of each of 64 files";
+    time_action(rt, report, written, filled.as_slice(), write)?;
+    let read = "read, 15 of each of 64 files";
     time_action(
         rt,
         report,
-        "create, 64 in a new root",
-        empty.as_slice(),
-        Action::Create,
-    )?;
-    time_action(
-        rt,
-        report,
-        "append, 15 to each of 64 files",
-        named.as_slice(),
-        write,
-    )?;
-    time_action(
-        rt,
-        report,
-        "overwrite, 15 of each of 64 files",
-        filled.as_slice(),
-        write,
-    )?;
-    time_action(
-        rt,
-        report,
-        "read, 15 of each of 64 files",
-        filled.as_slice(),
         read,
-    )?;
-    time_action(
-        rt,
-        report,
-        "remove, each of 64 files of 15",
         filled.as_slice(),
-        Action::Remove,
-    )?;
-    time_survey(
-        rt,
-        report,
-        "open and survey, 64 files of 15",
-        filled.as_slice(),
-        2874,
+        Action::Read(FILES, LEAVES),
     )
 }
 
@@ -272,6 +264,7 @@ pub fn run<R: Clock + Print + AllocGlobal>(rt: &R, report: Report) -> anyhow::Re
     let taken = full(rt.alloc())?;
     print_head(rt, report)?;
     time_format(rt, report, taken.as_slice())?;
+    time_smallest(rt, report)?;
     time_survey(
         rt,
         report,
@@ -287,6 +280,7 @@ pub fn run<R: Clock + Print + AllocGlobal>(rt: &R, report: Report) -> anyhow::Re
         0,
     )?;
     time_files(rt, report)?;
+    time_leaves(rt, report)?;
     time_saves(rt, report)?;
     time_finds(rt, report)
 }

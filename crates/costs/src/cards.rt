@@ -20,15 +20,7 @@ fn row(name: &'static str, ask: Ask<'static>) -> Row<'static> {
     }
 }
 
-fn print_small<R: Print + AllocGlobal>(rt: &R) -> anyhow::Result<()> {
-    print_head(
-        rt,
-        "A card of 12 blocks: alto of 2 leaves; mass, and in it bass of 1 leaf",
-    )?;
-    count_format(rt, &mut [0; SIZE], 12, 4)?;
-    let mut image = example();
-    count_survey(rt, &mut image)?;
-    let mass = handle(2, 3);
+fn print_small_reads<R: Print + AllocGlobal>(rt: &R, image: &[u8]) -> anyhow::Result<()> {
     let rows = [
         row("find mass in the root", Ask::Find(ROOT, b"mass")),
         row("find loft in the root: not there", Ask::Find(ROOT, b"loft")),
@@ -42,6 +34,13 @@ fn print_small<R: Print + AllocGlobal>(rt: &R) -> anyhow::Result<()> {
         row("space", Ask::Space),
         row("read alto's leaf 1", Ask::Read(FIRST, 1)),
         row("read alto's leaf 2: not there", Ask::Read(FIRST, 2)),
+    ];
+    count_rows(rt, image, &rows)
+}
+
+fn print_small_changes<R: Print + AllocGlobal>(rt: &R, image: &[u8]) -> anyhow::Result<()> {
+    let mass = handle(2, 3);
+    let rows = [
         row("write alto's leaf 1", Ask::Write(FIRST, 1, &LEAF)),
         row(
             "write alto's leaf 2, a new one",
@@ -65,7 +64,19 @@ fn print_small<R: Print + AllocGlobal>(rt: &R) -> anyhow::Result<()> {
         row("remove bass from mass", Ask::Remove(mass, b"bass")),
         row("sync", Ask::Sync),
     ];
-    count_rows(rt, &image, &rows)
+    count_rows(rt, image, &rows)
+}
+
+fn print_small<R: Print + AllocGlobal>(rt: &R) -> anyhow::Result<()> {
+    print_head(
+        rt,
+        "A card of 12 blocks: alto of 2 leaves; mass, and in it bass of 1 leaf",
+    )?;
+    count_format(rt, &mut [0; SIZE], 12, 4)?;
+    let mut image = example();
+    count_survey(rt, &mut image)?;
+    print_small_reads(rt, &image)?;
+    print_small_changes(rt, &image)
 }
 
 fn print_folder<R: Print + AllocGlobal>(
