@@ -1,124 +1,52 @@
 // The shop's command over card images.
 #![tactic(auto)]
 
-use crate::arguments::Arguments;
-use crate::image::Image;
-use crate::words::{Word, print_help, print_usage};
-use anyhow::bail;
-use std::env::Args;
-use std::process::ExitCode;
-use std::rt::Files;
-use std::{env, io};
+use anyhow::{Context, anyhow};
+use std::{env, fs};
 
-mod arguments;
-mod below;
 mod blocks;
-mod bring;
-mod changing;
-mod edit;
-mod export;
-mod files;
-mod image;
-mod local;
-mod map;
-mod need;
-mod picture;
-mod reading;
-mod remove;
-mod show;
-mod svg;
 mod text;
 mod tree;
-mod words;
 
-fn print_blocks<R: Files + Print + AllocGlobal>(rt: &R, given: &Arguments) -> anyhow::Result<()> {
-    let image = Image::load(rt, given.word(0)?)?;
-    blocks::print(rt, image.bytes.as_slice())
+const HELP: &str = "gildreyk: looks into a stand's card
+
+  gildreyk blocks IMAGE   a line for each block: what it holds, whose it is, which leaf, how long
+  gildreyk tree IMAGE     every folder and file below the root, with its leaves, and what is damaged
+  gildreyk all IMAGE      both
+  gildreyk help           this text";
+
+// The bytes of the image that the word behind a command names.
+fn load(rt: &HostRuntime, command: &str, name: Option<String>) -> anyhow::Result<Vec<u8>> {
+    let Some(path) = name else {
+        return Err(anyhow!("{command}: name an image"));
+    };
+    fs::read(rt, path.as_str()).with_context(|| anyhow!("{path} cannot be read"))
 }
 
-fn print_tree<R: Files + Print + AllocGlobal>(rt: &R, given: &Arguments) -> anyhow::Result<()> {
-    let mut image = Image::load(rt, given.word(0)?)?;
-    tree::print(rt, rt.alloc(), image.bytes.as_mut_slice())
-}
-
-fn print_all<R: Files + Print + AllocGlobal>(rt: &R, given: &Arguments) -> anyhow::Result<()> {
-    print_blocks(rt, given)?;
-    print_tree(rt, given)
-}
-
-fn perform(rt: &HostRuntime, word: Word, given: &Arguments) -> anyhow::Result<()> {
-    match word {
-        Word::New => edit::new(rt, given),
-        Word::Put => edit::put(rt, given),
-        Word::MakeFolder => edit::make_folder(rt, given),
-        Word::Remove => edit::remove(rt, given),
-        Word::Import => edit::import(rt, given),
-        Word::Export => export::export(rt, given),
-        Word::Get => show::get(rt, given),
-        Word::Cat => show::cat(rt, given),
-        Word::List => show::list(rt, given),
-        Word::Show => show::show(rt, given),
-        Word::Space => show::space(rt, given),
-        Word::Damage => show::damage(rt, given),
-        Word::Check => show::check(rt, given),
-        Word::Map => map::map(rt, given),
-        Word::Tree => print_tree(rt, given),
-        Word::Blocks => print_blocks(rt, given),
-        Word::All => print_all(rt, given),
-        Word::Demo => choir::showing::demonstrate(rt),
-    }
-}
-
-// Takes the words behind the command, and does what they ask for.
-fn obey(rt: &HostRuntime, word: Word, words: Args, given: &mut Arguments) -> anyhow::Result<()> {
-    for text in words {
-        given.take(text)?;
-    }
-    if given.asks_help {
-        return Ok(print_usage(rt, &word.form())?);
-    }
-    given.finish()?;
-    perform(rt, word, given)
-}
-
-// Prints an error, after the command and the image that it is about.
-fn tell(rt: &impl Eprint, word: Word, given: &Arguments, error: &anyhow::Error) -> io::Result<()> {
-    let name = word.form().spelling;
-    match given.optional(0) {
-        Some(image) => eprintln!(rt; "gildreyk {name} {image}: {error:#}"),
-        None => eprintln!(rt; "gildreyk {name}: {error:#}"),
-    }
-}
-
-// Does what the words of the command line ask for. An error of the command is printed, and gives the status 1.
-fn run(rt: &HostRuntime) -> anyhow::Result<ExitCode> {
+// Does what the words of the command line ask for.
+fn run(rt: &HostRuntime) -> anyhow::Result<()> {
     let mut words = env::args(rt)?;
     let _program = words.next();
-    let first = words.next();
-    let name = first.as_ref().map_or("help", |word| word.as_str());
-    if matches!(name, "help" | "-h" | "--help") {
-        print_help(rt)?;
-        return Ok(ExitCode::SUCCESS);
-    }
-    let Some(word) = Word::find(name) else {
-        bail!("there is no command {name}: try gildreyk help");
+    let Some(command) = words.next() else {
+        return Ok(println!(rt; "{HELP}")?);
     };
-    let mut given = Arguments::new(rt.alloc(), word.form());
-    match obey(rt, word, words, &mut given) {
-        Ok(()) => Ok(ExitCode::SUCCESS),
-        Err(error) => {
-            tell(rt, word, &given, &error)?;
-            Ok(ExitCode::FAILURE)
+    match command.as_str() {
+        "blocks" => blocks::print(rt, load(rt, "blocks", words.next())?.as_slice()),
+        "tree" => tree::print(
+            rt,
+            rt.alloc(),
+            load(rt, "tree", words.next())?.as_mut_slice(),
+        ),
+        "all" => {
+            let mut image = load(rt, "all", words.next())?;
+            blocks::print(rt, image.as_slice())?;
+            tree::print(rt, rt.alloc(), image.as_mut_slice())
         }
+        "help" => Ok(println!(rt; "{HELP}")?),
+        _ => Err(anyhow!("no such command as {command}: try gildreyk help")),
     }
 }
 
-fn main(rt: HostRuntime) -> ExitCode {
-    match run(&rt) {
-        Ok(status) => status,
-        Err(error) => {
-            let _ = eprintln!(rt; "gildreyk: {error:#}");
-            ExitCode::FAILURE
-        }
-    }
+fn main(rt: HostRuntime) -> anyhow::Result<()> {
+    run(&rt)
 }
