@@ -64,19 +64,17 @@ impl<R: Print> Tree<'_, '_, R> {
         Ok(())
     }
 
-    // The leaves of a folder: of one that is not good the entries are not seen.
+    // The leaves of a folder: of one that is not good the entries are not seen. One look at each line of the damage.
     fn print_folder_leaves(&self, folder: &Handle, count: u16, depth: u16) -> io::Result<()> {
-        for k in 0..count {
-            let leaf = LeafNo(k);
-            let line = DamageLine {
-                slot: folder.slot,
-                leaf,
-            };
-            let state = if self.damage.contains(&line) {
-                "not good"
-            } else {
-                "good"
-            };
+        let mut states = ["good"; 64];
+        for line in &self.damage {
+            if line.slot == folder.slot
+                && let Some(state) = states.get_mut(line.leaf.0 as usize)
+            {
+                *state = "not good";
+            }
+        }
+        for (leaf, state) in (0..count).zip(states.iter()) {
             self.indent(depth)?;
             println!(self.rt; "leaf {leaf}: {state}")?;
         }
