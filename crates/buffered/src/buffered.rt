@@ -60,8 +60,8 @@ impl<D: Device> Buffered<D> {
         requires { self.old.gone ≡ false }
         ensures { MatchResult result (λ i. Placed (on self.old) at.0 i (on self.new)) (λ e. (e ≡ PowerGone at) × NoPlace (on self.old) at.0 (on self.new)) }
     {
-        if let Some(own) = find(&self.table, at) {
-            return Ok(own.place);
+        if let Some((own, _)) = find(&self.table, at) {
+            return Ok(own);
         }
         if let Some(i) = vacant(&self.table) {
             return Ok(i);
@@ -94,8 +94,8 @@ impl<D: Device> Device for Buffered<D> {
         if at.0 >= self.below.count() {
             return Err(Fault::NoSuchBlock(at));
         }
-        if let Some(waiting) = find(&self.table, at) {
-            return Ok(waiting.put.bytes);
+        if let Some((_, put)) = find(&self.table, at) {
+            return Ok(put.bytes);
         }
         let answer = self.below.read(at);
         self.gone = matches!(answer, Err(Fault::PowerGone(_)));

@@ -13,15 +13,15 @@ pub(crate) struct Waiting {
     pub(crate) put: Put,
 }
 
-// A block as it waits at the first place that has it.
-pub(crate) fn find(table: &[Option<Put>; 8], at: BlockNo) -> Option<Waiting>
-    ensures { MatchOption result (Absent table.now at.0) (λ w. FoundPut table.now at.0 w.place w.put) }
+// The first place at which a block waits, and the block as it waits there.
+pub(crate) fn find(table: &[Option<Put>; 8], at: BlockNo) -> Option<(usize, &Put)>
+    ensures { MatchOption result (Absent table.now at.0) (λ w. FoundPut table.now at.0 w.0 w.1.now) }
 {
     for (place, waiting) in table.iter().enumerate() {
         if let Some(put) = waiting
             && put.block == at
         {
-            return Some(Waiting { place, put: *put });
+            return Some((place, put));
         }
     }
     None
@@ -34,19 +34,21 @@ pub(crate) fn vacant(table: &[Option<Put>; 8]) -> Option<usize>
     table.iter().position(Option::is_none)
 }
 
-// The waiting block with the highest number.
+// The waiting block with the highest number, copied once its place is known.
 pub(crate) fn highest(table: &[Option<Put>; 8]) -> Option<Waiting>
     ensures { MatchOption result (Empty table.now) (λ w. TopPut table.now w.place w.put) }
 {
-    let mut best: Option<Waiting> = None;
+    let mut best = None;
+    let mut top = BlockNo(0);
     for (place, waiting) in table.iter().enumerate() {
-        let Some(put) = waiting else {
-            continue;
-        };
-        match best {
-            Some(top) if put.block < top.put.block => {}
-            _ => best = Some(Waiting { place, put: *put }),
+        if let Some(put) = waiting
+            && put.block >= top
+        {
+            best = Some(place);
+            top = put.block;
         }
     }
-    best
+    let place = best?;
+    let put = table[place].as_ref()?;
+    Some(Waiting { place, put: *put })
 }

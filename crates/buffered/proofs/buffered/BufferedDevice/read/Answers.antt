@@ -1,5 +1,4 @@
-use Rattle.std.proofs.Common.{◌≡◌, ◌<◌, Ok, sym, ap, arith, rules}
-use Rattle.buffered.specs.Buffered.{contents}
+use Rattle.std.proofs.Common.{◌≡◌, ◌<◌, arith, rules}
 use Rattle.buffered.specs.Card.{on}
 use Rattle.buffered.specs.Steps.{met, waits}
 use Rattle.buffered.proofs.Buffers.{alone, read_below, read_found, same_stayed}
@@ -11,9 +10,10 @@ returns-in-Some g c =
     let s = on c.args.self.now in
     let l : c.args.at.0 < s.below.count = omega arith in
     let h = c.in-Some.ensures in
+    let shown = read_found s.table s.below _ _ _ h.found h.is in
     record {
-      answer = record { within = l; bytes = read_found s.table s.below _ _ _ h.found h.is; stayed = same_stayed s c.if-self.false };
-      exact = waits c.if-self.false l _ h.found (ap Ok (sym (ap contents h.is))) (alone s);
+      answer = record { within = l; bytes = grind (arith, shown, h.is); stayed = same_stayed s c.if-self.false };
+      exact = waits c.if-self.false l _ h.found (grind (arith, h.is)) (alone s);
     }
 
 pub returns-clause-answer : goal.returns-clause-answer

@@ -1,4 +1,4 @@
-use Rattle.std.proofs.Common.{◌≡◌, refl, rules}
+use Rattle.std.proofs.Common.{◌≡◌, refl, arith}
 use Rattle.std.proofs.lemmas.Result.{err_from_is_err_and}
 use Rattle.buffered.specs.Steps.{met}
 use Rattle.buffered.proofs.Buffers.{sending_none, sending_more, fewer_wait, sync_halted, sync_answered}
@@ -23,6 +23,6 @@ returns-in_err-send_down g c =
 
 pub returns : goal.returns
 returns g c =
-    let is : c.match-matches.self ≡ met c.sync-answer.result = elim c.match-matches.branch [ in-Err-PowerGone w ↦ search rules | in_default-matches w ↦ search rules | in_default-matches-2 w ↦ search rules ] in
+    let is : c.match-matches.self ≡ met c.sync-answer.result = elim c.match-matches.branch [ in-Err-PowerGone w ↦ grind arith | in_default-matches w ↦ grind arith | in_default-matches-2 w ↦ grind arith ] in
     let ends = sync_answered _ _ c.loop-top.invariant c.in_default.ensures _ _ _ c.if-self.false is c.sync-answer.ensures in
-    record { answer = ends.answer; exact = ends.exact }
+    record { answer = grind (arith, ends.answer); exact = grind (arith, ends.exact) }
