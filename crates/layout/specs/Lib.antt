@@ -6,5 +6,4 @@ pub mod View
 pub mod Entries
 pub mod Identities
 pub mod Owners
-pub mod Lines
 pub mod Laws

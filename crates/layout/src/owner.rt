@@ -1,22 +1,26 @@
 // One check for everything that names an owner. Each sort of owned thing has its own back line.
 ghost use Rattle.std.specs.Prelude.{◌≡◌, Decides};
 ghost use Rattle.layout.specs.Owners.{body_line, folder_body_line, slot_line};
-ghost use Rattle.layout.specs.Lines.{backs_decided, handles_decided};
 
 use crate::block::{Body, FolderBody, Slot};
 use base::owner::{Back, Handle};
 
-// What an owned thing says of its owner (a back pointer). Equal back lines are the same.
-pub trait BackLine: PartialEq {
-    ghost same: { (x y : Self) → Decides (Self.eq x y) (x ≡ y) };
+// What an owned thing says of its owner (a back pointer).
+pub trait BackLine {
+    fn same(&self, other: &Self) -> bool
+        ensures { Decides result (self.now ≡ other.now) };
 }
 
 impl BackLine for Back {
-    ghost same = { backs_decided };
+    fn same(&self, other: &Back) -> bool {
+        *self == *other
+    }
 }
 
 impl BackLine for Handle {
-    ghost same = { handles_decided };
+    fn same(&self, other: &Handle) -> bool {
+        self.slot == other.slot && self.identity == other.identity
+    }
 }
 
 // Something that names its owner.
@@ -66,5 +70,5 @@ impl Owned for Slot<'_> {
 pub fn names<O: Owned>(thing: &O, line: &O::Line) -> bool
     ensures { Decides result (O.Owned.owner thing.now ≡ line.now) }
 {
-    thing.line() == *line
+    thing.line().same(line)
 }
