@@ -3,7 +3,7 @@ use Rattle.std.proofs.Common.{◌≡◌, ℕ, zero, suc, ◌+◌, ◌-◌, ◌*�
 use Rattle.std.proofs.lemmas.List.{get_or-drop, get_or-take, drop-take, length-take-le}
 use Rattle.std.proofs.lemmas.Bool.{and_parts, leb-true}
 use Rattle.std.specs.Simd.{first_chunks}
-use Rattle.layout.specs.View.{all_numbers}
+use Rattle.layout.specs.View.{all_numbers, SlotSized}
 use Rattle.base.specs.declared.owner.Kind.{Kind}
 use Rattle.layout.specs.declared.block.parsing.SlotHead.{SlotHead}
 use Rattle.layout.specs.Head.{slot_head_fits, slot_by}
@@ -55,6 +55,9 @@ module _ (c : ℕ) (z : List ℕ) (h : 2 * c ≤ length z) where
   part_numbers =
       ap (λ n. numbers_of n (take (2 * c - 0) z)) part_count
       ∙ ap (λ m. numbers_of c (take m z)) (omega arith) ∙ numbers_take c z
+
+  pub part_sized : c ≤ 64 → SlotSized (take (2 * c - 0) z)
+  part_sized few = (omega (arith, part_length, part_count), omega (arith, part_count))
 
 -- the k-th number
 pub number_at : (n k : ℕ) (z : List ℕ) → k < n → get_or (numbers_of n z) k 0 ≡ le16 z (2 * k)

@@ -1,6 +1,5 @@
 pub mod Format
 pub mod Sizes
-pub mod Parts
 pub mod Head
 pub mod View
 pub mod Entries

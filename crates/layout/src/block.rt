@@ -1,6 +1,5 @@
 // A block once read: one of the kinds, or ill formed. Slots and bodies borrow what follows their head from the block.
 ghost use Rattle.std.specs.Prelude.{◌≡◌, ◌<◌, ◌≤◌, length, MatchOption, slice_index};
-ghost use Rattle.layout.specs.Parts.{all_numbers, SlotSized};
 
 mod parsing;
 
@@ -15,7 +14,6 @@ pub struct Slot<'a> {
     pub identity: Identity,
     pub parent: Handle,
     pub numbers: &'a [u8],
-    pub ghost sized: { SlotSized numbers.now },
 }
 
 // A file's leaf: the bytes used.
@@ -23,11 +21,10 @@ pub struct Slot<'a> {
 pub struct Body<'a> {
     pub back: Back,
     pub payload: &'a [u8],
-    pub ghost sized: { length payload.now ≤ 496 },
 }
 
 // A folder's leaf: the 15 cells of its entries.
-// Kept: a struct beside `Body`, since each has its own fact of how long the payload is, and a slice as the file's is.
+// Kept: a struct beside `Body`, since its type says how long the payload is, and a slice as the file's is.
 #[derive(Clone, Copy, PartialEq, Eq, Debug)]
 pub struct FolderBody<'a> {
     pub back: Back,
@@ -48,6 +45,8 @@ pub enum Block<'a> {
 }
 
 impl Slot<'_> {
+    ghost use Rattle.layout.specs.View.{all_numbers};
+
     // How many leaves it has.
     pub fn count(&self) -> usize
         ensures { result ≡ length (all_numbers self.now.numbers.now) }

@@ -3,7 +3,7 @@ ghost use Rattle.std.specs.Prelude.{◌≡◌};
 ghost use Rattle.std.specs.Option.{option_map};
 ghost use Rattle.layout.specs.Format.{parse as parsed};
 ghost use Rattle.layout.specs.Sizes.{sizes};
-ghost use Rattle.layout.specs.View.{slot_view};
+ghost use Rattle.layout.specs.View.{SlotSized, slot_view};
 ghost use Rattle.rule.specs.Agree.{slot_in, number};
 ghost use Rattle.rule.specs.Agree as agree;
 ghost use Rattle.layout.specs.Format.{slotted};
@@ -58,6 +58,7 @@ pub fn read_slot<D: Device>(
 impl SlotCopy {
     #[tactic(auto, using(crate::proofs::Copying::numbers_copied))]
     fn new(kind: Kind, slot: &Slot) -> SlotCopy
+        requires { SlotSized slot.now.numbers.now }
         ensures { slotted (copied result) ≡ slot_view kind slot.now }
     {
         let mut numbers = [0u8; 128];

@@ -4,7 +4,7 @@ ghost use Rattle.layout.specs.Format.{all_bodies, cover, ill_formed, cover_of, s
 ghost use Rattle.layout.specs.Sizes.{sizes, region_view};
 ghost use Rattle.layout.specs.Head.{body_of, slot_head, body_head, slot_head_fits, body_head_fits, slot_by, body_by};
 ghost use Rattle.layout.specs.Laws.{Writable};
-ghost use Rattle.layout.specs.View.{view, all_numbers};
+ghost use Rattle.layout.specs.View.{view, all_numbers, Sized};
 
 use crate::block::{Block, Body, FolderBody, Slot};
 use crate::geometry::Geometry;
@@ -87,7 +87,8 @@ fn body_head_fits(g: &Geometry, head: &BodyHead) -> bool
 
 fn slot_after<'a>(g: &Geometry, kind: Kind, head: SlotHead, rest: &'a [u8]) -> Block<'a>
     requires { length rest.now ≡ 496 }
-    ensures { view result ≡ slot_by (sizes g.now) kind head rest.now }
+    ensures means { view result ≡ slot_by (sizes g.now) kind head rest.now }
+    ensures sized { Sized result }
 {
     if !slot_head_fits(g, &head) {
         return Block::IllFormed;
@@ -109,7 +110,8 @@ fn slot_after<'a>(g: &Geometry, kind: Kind, head: SlotHead, rest: &'a [u8]) -> B
 
 fn body_after<'a>(g: &Geometry, kind: Kind, head: BodyHead, rest: &'a [u8]) -> Block<'a>
     requires { length rest.now ≡ 496 }
-    ensures { view result ≡ body_by (sizes g.now) kind head rest.now }
+    ensures means { view result ≡ body_by (sizes g.now) kind head rest.now }
+    ensures sized { Sized result }
 {
     if !body_head_fits(g, &head) {
         return Block::IllFormed;
@@ -139,7 +141,8 @@ pub fn parse_cover(block: &[u8; 512]) -> Option<Geometry>
 }
 
 fn any_cover<'a>(block: &[u8; 512]) -> Block<'a>
-    ensures { view result ≡ cover_of block.now }
+    ensures means { view result ≡ cover_of block.now }
+    ensures sized { Sized result }
 {
     match parse_cover(block) {
         Some(g) => Block::Cover {
@@ -152,7 +155,8 @@ fn any_cover<'a>(block: &[u8; 512]) -> Block<'a>
 
 // Kept: as for the heads: the pattern is the layout of a slot, the one below is that of a body.
 fn any_slot<'a>(g: &Geometry, kind: Kind, block: &'a [u8; 512]) -> Block<'a>
-    ensures { view result ≡ slot_of (sizes g.now) kind block.now }
+    ensures means { view result ≡ slot_of (sizes g.now) kind block.now }
+    ensures sized { Sized result }
 {
     let [_, _, c0, c1, i0, i1, i2, i3, p0, p1, p2, p3, s0, s1, ..] = block;
     let identity = [*i0, *i1, *i2, *i3];
@@ -161,7 +165,8 @@ fn any_slot<'a>(g: &Geometry, kind: Kind, block: &'a [u8; 512]) -> Block<'a>
 }
 
 fn any_body<'a>(g: &Geometry, kind: Kind, block: &'a [u8; 512]) -> Block<'a>
-    ensures { view result ≡ body_of (sizes g.now) kind block.now }
+    ensures means { view result ≡ body_of (sizes g.now) kind block.now }
+    ensures sized { Sized result }
 {
     let [_, _, s0, s1, i0, i1, i2, i3, l0, l1, u0, u1, ..] = block;
     let head = body_head([*s0, *s1], [*i0, *i1, *i2, *i3], [*l0, *l1], [*u0, *u1]);
@@ -170,7 +175,8 @@ fn any_body<'a>(g: &Geometry, kind: Kind, block: &'a [u8; 512]) -> Block<'a>
 
 // What a block of this region holds: its first byte says which kind it is.
 fn in_region<'a>(g: &Geometry, region: Region, block: &'a [u8; 512]) -> Block<'a>
-    ensures { view result ≡ by_kind (sizes g.now) (region_view region) (slice_index block.now 0) block.now }
+    ensures means { view result ≡ by_kind (sizes g.now) (region_view region) (slice_index block.now 0) block.now }
+    ensures sized { Sized result }
 {
     match (region, block[0]) {
         (Region::Cover, _) => any_cover(block),
@@ -187,6 +193,7 @@ fn in_region<'a>(g: &Geometry, region: Region, block: &'a [u8; 512]) -> Block<'a
 pub fn parse<'a>(g: &Geometry, at: BlockNo, block: &'a [u8; 512]) -> Block<'a>
     ensures means { view result ≡ parsed (sizes g.now) at.0 block.now }
     ensures ranged { (view result ≢ ill_formed) → Writable (sizes g.now) at.0 (view result) }
+    ensures sized { Sized result }
 {
     in_region(g, g.region(at), block)
 }
