@@ -34,6 +34,9 @@ fn open_sized<D: Device>(device: &mut D, g: Geometry) -> Result<Geometry, Refusa
 }
 
 // The geometry of the card on a device, or the refusal that answers each call.
+// It is called, and not copied into `open`: over one call the compiler sees that the card is written whole, and doesn't
+// fill it with zeros first.
+#[inline(never)]
 pub fn open_card<D: Device>(device: &mut D) -> Result<Geometry, Refusal>
     ensures { Opening result (opening (D.Device.model device.old).count (D.Device.model device.old).shown) (D.Device.model device.old) (D.Device.model device.new) }
 {
