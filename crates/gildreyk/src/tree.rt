@@ -151,10 +151,6 @@ fn root_line() -> EntryLine {
 
 // Prints the card in an image; a bad card is an error.
 pub fn print(rt: &impl Print, heap: Global, image: &mut [u8]) -> anyhow::Result<()> {
-    let mut card = open(Plain::new(image));
-    let mut damage = vec![in heap; NO_DAMAGE; LEAVES]?;
-    let count = card.damage(&mut damage)?;
-    damage.truncate(count);
     let root = Todo {
         depth: 0,
         entry: root_line(),
@@ -162,11 +158,15 @@ pub fn print(rt: &impl Print, heap: Global, image: &mut [u8]) -> anyhow::Result<
     let mut tree = Tree {
         rt,
         heap,
-        card,
-        damage,
+        card: open(Plain::new(image)),
+        damage: Vec::new(heap),
         met: BTreeSet::new(heap),
         todo: vec![in heap; root]?,
     };
+    let mut damage = vec![in heap; NO_DAMAGE; LEAVES]?;
+    let count = tree.card.damage(&mut damage)?;
+    damage.truncate(count);
+    tree.damage = damage;
     for _ in 0..LINES {
         let Some(line) = tree.todo.pop() else {
             break;
