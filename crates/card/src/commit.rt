@@ -15,7 +15,7 @@ fn write_plan<D: Device>(device: &mut D, plan: &Plan) -> Result<(), Refusal>
     ensures written { first_outside (D.Device.model device.old).count (puts_in plan.now) ≡ None → Puts (puts_in plan.now) (D.Device.model device.old) result (D.Device.model device.new) }
     ensures count { (D.Device.model device.new).count ≡ (D.Device.model device.old).count }
 {
-    write_all(device, &plan.puts)?;
+    write_all(device, &plan.puts[..plan.len])?;
     Ok(())
 }
 

@@ -1,5 +1,5 @@
 -- What the plans in the code stand for, and what is known of the plan of an accepted call.
-use Rattle.std.specs.Prelude.{◌≡◌, ℕ, suc, ◌≤◌, List, length, Some, None, Ok, Err, Option, Result, MatchResult, nat_lt}
+use Rattle.std.specs.Prelude.{◌≡◌, ℕ, suc, ◌≤◌, List, length, take, Some, None, Ok, Err, Option, Result, MatchResult, nat_lt}
 use Rattle.std.specs.Option.{option_map}
 use Rattle.base.specs.declared.owner.Handle.{Handle}
 use Rattle.base.specs.declared.owner.Kind.TheVariants.{File, Folder}
@@ -39,7 +39,7 @@ card_view g mem = record { ready = Ok (sizes g); highest = mem.highest.0; next_s
 
 -- the blocks that are to be written
 abbrev pub puts_in : CodePlan → List Put
-puts_in p = p.puts.items
+puts_in p = take p.len p.puts
 
 abbrev pub plan_view : {A : Type 0} → A → CardGeometry → CodePlan → Plan A
 plan_view a g p = record { answer = a; puts = puts_in p; card = card_view g p.memory }

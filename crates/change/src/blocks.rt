@@ -7,7 +7,9 @@ ghost use Rattle.rule.specs.Agree.{number, count};
 ghost use Rattle.rule.specs.Card.{block as block_no};
 ghost use Rattle.rule.specs.Changing.{store, store_slot, with_numbers, cut_to, grown, new_slot};
 ghost use Rattle.walk.specs.Copies.{copied};
+ghost use Rattle.change.specs.Plans.{Planned};
 
+use crate::plan::{Memory, Plan};
 use crate::scan::Spot;
 use base::number::{BlockNo, LeafNo, SlotNo};
 use base::owner::{Back, Handle, Kind};
@@ -134,4 +136,39 @@ pub(crate) fn entry_cell(name: &[u8], child: &Handle) -> [u8; 32]
     ensures { good_name name.now ≡ true → result ≡ entry_cell name.now child.now }
 {
     encode_entry(name, child).unwrap_or([0; 32])
+}
+
+// A place in a plan that is not used.
+const NO_PUT: Put = Put {
+    block: BlockNo(0),
+    bytes: [0; 512],
+};
+
+// At most three blocks are written as one effect.
+pub(crate) fn planned(puts: &[Put], memory: Memory) -> Plan
+    requires { length puts.now ≤ 3 }
+    ensures { Planned puts.now memory result }
+{
+    match puts {
+        [] => Plan {
+            puts: [NO_PUT, NO_PUT, NO_PUT],
+            len: 0,
+            memory,
+        },
+        [a] => Plan {
+            puts: [*a, NO_PUT, NO_PUT],
+            len: 1,
+            memory,
+        },
+        [a, b] => Plan {
+            puts: [*a, *b, NO_PUT],
+            len: 2,
+            memory,
+        },
+        [a, b, c, ..] => Plan {
+            puts: [*a, *b, *c],
+            len: 3,
+            memory,
+        },
+    }
 }

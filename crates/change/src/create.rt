@@ -10,10 +10,10 @@ ghost use Rattle.walk.specs.Still.{Gives, shows};
 ghost use Rattle.change.specs.Plans.{card_view, fresh, Grounded, Decides, Entering, Creating, CreatePlanned};
 ghost use Rattle.change.specs.Scanning.{SpotAt, SpotOr};
 
-use crate::blocks::{after, cell_put, entry_cell, first_put, grown_put, new_put};
+use crate::blocks::{after, cell_put, entry_cell, first_put, grown_put, new_put, planned};
 use crate::changing::read_changing;
 use crate::known::Known;
-use crate::plan::{Accepted, Created, Gained, Memory, planned};
+use crate::plan::{Accepted, Created, Gained, Memory};
 use crate::scan::{Sought, Spot, child_at, scan_folder};
 use base::number::{Identity, LeafNo};
 use base::owner::{Back, Handle, Kind};

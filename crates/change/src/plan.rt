@@ -1,8 +1,6 @@
 // The plan of an accepted call.
-ghost use Rattle.std.specs.Prelude.{◌≡◌, ◌≤◌, [], length};
-ghost use Rattle.change.specs.Plans.{Planned};
+ghost use Rattle.std.specs.Prelude.{◌≤◌};
 
-use arrayvec::ArrayVec;
 use base::number::{BlockNo, Identity, LeafNo};
 use base::owner::Handle;
 use device::put::Put;
@@ -16,15 +14,18 @@ pub struct Memory {
     pub next_body: u16,
 }
 
-// The blocks to be written, in this order; the card keeps `memory` after.
-#[derive(Drop)]
+// The first `len` blocks are to be written, in this order; the card keeps `memory` after.
+// Kept: an array and how many are used; a plan is Copy, which an ArrayVec is not.
+#[derive(Clone, Copy)]
 pub struct Plan {
-    pub puts: ArrayVec<Put, 3>,
+    pub puts: [Put; 3],
+    pub len: usize,
     pub memory: Memory,
+    pub ghost few: { len ≤ 3 },
 }
 
 // A plan, with what the card needs to know of the change to mark it.
-#[derive(Drop)]
+#[derive(Clone, Copy)]
 pub struct Accepted<A> {
     pub plan: Plan,
     pub change: A,
@@ -42,16 +43,4 @@ pub struct Gained {
 pub struct Created {
     pub child: Handle,
     pub gained: Option<Gained>,
-}
-
-// At most three blocks are written as one effect.
-pub(crate) fn planned(puts: &[Put], memory: Memory) -> Plan
-    requires { length puts.now ≤ 3 }
-    ensures { Planned puts.now memory result }
-{
-    let mut all = ArrayVec::new();
-    for put in puts {
-        all.push(*put);
-    }
-    Plan { puts: all, memory }
 }

@@ -5,10 +5,10 @@ ghost use Rattle.rule.specs.Changing.{remove};
 ghost use Rattle.walk.specs.Still.{Still, Gives};
 ghost use Rattle.change.specs.Plans.{card_view, Grounded, Removing, RemovePlanned};
 
-use crate::blocks::{blank_put, cell_put};
+use crate::blocks::{blank_put, cell_put, planned};
 use crate::changing::read_changing;
 use crate::known::Known;
-use crate::plan::{Accepted, planned};
+use crate::plan::Accepted;
 use crate::scan::{Sought, Spot, child_at, scan_folder};
 use base::owner::{Handle, Kind};
 use base::refusal::Refusal;

@@ -8,10 +8,10 @@ ghost use Rattle.walk.specs.Copies.{copied};
 ghost use Rattle.walk.specs.Still.{Gives, shows};
 ghost use Rattle.change.specs.Plans.{card_view, Grounded, Decides, ShortenPlanned};
 
-use crate::blocks::cut_put;
+use crate::blocks::{cut_put, planned};
 use crate::changing::read_changing;
 use crate::known::Known;
-use crate::plan::{Accepted, planned};
+use crate::plan::Accepted;
 use base::number::LeafNo;
 use base::owner::{Handle, Kind};
 use base::refusal::Refusal;

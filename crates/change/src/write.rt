@@ -7,10 +7,10 @@ ghost use Rattle.walk.specs.Copies.{copied};
 ghost use Rattle.walk.specs.Still.{Gives};
 ghost use Rattle.change.specs.Plans.{card_view, Grounded, Decides, Writing, WritePlanned};
 
-use crate::blocks::{after, file_put, grown_put};
+use crate::blocks::{after, file_put, grown_put, planned};
 use crate::changing::read_changing;
 use crate::known::Known;
-use crate::plan::{Accepted, Gained, Memory, planned};
+use crate::plan::{Accepted, Gained, Memory};
 use base::number::LeafNo;
 use base::owner::{Back, Handle, Kind};
 use base::refusal::Refusal;
