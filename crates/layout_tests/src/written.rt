@@ -6,7 +6,8 @@ use encode::block::{
     encode_slot,
 };
 use encode::entry::encode_entry;
-use layout::block::{Block, parse};
+use encode::slot::copy_numbers;
+use layout::block::{Block, Body, Slot, parse};
 use layout::geometry::Geometry;
 use layout::owner::names;
 use listing::line::{DamageLine, NO_DAMAGE};
@@ -38,6 +39,30 @@ fn small_blocks(rt: HostRuntime) -> Result<(), Fail> {
     let blank = encode_blank();
     assert_eq!(rt; blank[0], 0);
     assert_eq!(rt; blank[511], 0);
+    Ok(())
+}
+
+// A slot and a file's body may be built of any bytes: the parser alone says how long what it borrows is.
+#[test]
+fn any_bytes(rt: HostRuntime) -> Result<(), Fail> {
+    let numbers = [7u8; 131];
+    let slot = Slot {
+        identity: Identity(2),
+        parent: handle(0, 1),
+        numbers: &numbers,
+    };
+    assert_eq!(rt; slot.count(), 65);
+    assert!(rt; slot.number(LeafNo(64)) == Some(BlockNo(1799)));
+    assert!(rt; slot.number(LeafNo(65)).is_none());
+    assert!(rt; copy_numbers(&slot).is_none());
+    assert!(rt; names(&slot, &handle(0, 1)));
+    let payload = [1u8; 500];
+    let body = Body {
+        back: back(3),
+        payload: &payload,
+    };
+    assert!(rt; names(&body, &back(3)));
+    assert!(rt; !names(&body, &back(2)));
     Ok(())
 }
 
