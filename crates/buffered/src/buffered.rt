@@ -6,7 +6,7 @@ ghost use Rattle.buffered.specs.Buffered.{buffered, Empty, Inside};
 ghost use Rattle.buffered.specs.Inner.{TopPut, Placed, NoPlace, Halted, SentDown};
 ghost use Rattle.buffered.specs.Steps.{ReadBy, WriteBy, SyncBy};
 
-use crate::table::{Waiting, find, highest, vacant};
+use crate::table::{find, highest, vacant};
 use base::number::BlockNo;
 use device::Device;
 use device::fault::{Fault, Synced, WHOLE};
@@ -41,16 +41,16 @@ impl<D: Device> Buffered<D> {
         &self.below
     }
 
-    // Sends down the highest waiting block, in the course of a call about the block `call`.
-    fn send_down(&mut self, top: Waiting, call: BlockNo) -> Result<(), Fault>
-        requires { (TopPut self.old.table top.place top.put) × (self.old.gone ≡ false) }
-        ensures { MatchResult result (λ _. SentDown (on self.old) top.place (on self.new)) (λ e. (e ≡ PowerGone call) × Halted (on self.old) top.place (on self.new)) }
+    // Sends down the highest waiting block, `put` at place `top`, in the course of a call about the block `call`.
+    fn send_down(&mut self, top: usize, put: &Put, call: BlockNo) -> Result<(), Fault>
+        requires { (TopPut self.old.table top put.now) × (self.old.gone ≡ false) }
+        ensures { MatchResult result (λ _. SentDown (on self.old) top (on self.new)) (λ e. (e ≡ PowerGone call) × Halted (on self.old) top (on self.new)) }
     {
-        if self.below.write(top.put.block, &top.put.bytes).is_err() {
+        if self.below.write(put.block, &put.bytes).is_err() {
             self.gone = true;
             return Err(Fault::PowerGone(call));
         }
-        self.table[top.place] = None;
+        self.table[top] = None;
         Ok(())
     }
 
@@ -66,11 +66,12 @@ impl<D: Device> Buffered<D> {
         if let Some(i) = vacant(&self.table) {
             return Ok(i);
         }
-        let Some(top) = highest(&self.table) else {
+        let Some((top, put)) = highest(&self.table) else {
             unreachable()
         };
-        self.send_down(top, at)?;
-        Ok(top.place)
+        let put = *put;
+        self.send_down(top, &put, at)?;
+        Ok(top)
     }
 }
 
@@ -127,8 +128,9 @@ impl<D: Device> Device for Buffered<D> {
         if self.gone {
             return Err(Fault::PowerGone(WHOLE));
         }
-        while let Some(top) = highest(&self.table) {
-            self.send_down(top, WHOLE)?;
+        while let Some((top, put)) = highest(&self.table) {
+            let put = *put;
+            self.send_down(top, &put, WHOLE)?;
         }
         let answer = self.below.sync();
         self.gone = matches!(answer, Err(Fault::PowerGone(_)));

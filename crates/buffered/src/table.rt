@@ -6,13 +6,6 @@ ghost use Rattle.buffered.specs.Inner.{FoundPut, TopPut};
 use base::number::BlockNo;
 use device::put::Put;
 
-// A block that waits, and its place.
-#[derive(Clone, Copy, PartialEq, Eq, Debug)]
-pub(crate) struct Waiting {
-    pub(crate) place: usize,
-    pub(crate) put: Put,
-}
-
 // The first place at which a block waits, and the block as it waits there.
 pub(crate) fn find(table: &[Option<Put>; 8], at: BlockNo) -> Option<(usize, &Put)>
     ensures { MatchOption result (Absent table.now at.0) (λ w. FoundPut table.now at.0 w.0 w.1.now) }
@@ -34,9 +27,9 @@ pub(crate) fn vacant(table: &[Option<Put>; 8]) -> Option<usize>
     table.iter().position(Option::is_none)
 }
 
-// The waiting block with the highest number, copied once its place is known.
-pub(crate) fn highest(table: &[Option<Put>; 8]) -> Option<Waiting>
-    ensures { MatchOption result (Empty table.now) (λ w. TopPut table.now w.place w.put) }
+// The place of the waiting block with the highest number, and the block as it waits there.
+pub(crate) fn highest(table: &[Option<Put>; 8]) -> Option<(usize, &Put)>
+    ensures { MatchOption result (Empty table.now) (λ w. TopPut table.now w.0 w.1.now) }
 {
     let mut best = None;
     let mut top = BlockNo(0);
@@ -50,5 +43,5 @@ pub(crate) fn highest(table: &[Option<Put>; 8]) -> Option<Waiting>
     }
     let place = best?;
     let put = table[place].as_ref()?;
-    Some(Waiting { place, put: *put })
+    Some((place, put))
 }
